@@ -1,0 +1,4 @@
+pub mod Bytes
+pub mod Steps
+pub mod Linear
+pub mod Divides

@@ -1,0 +1,74 @@
+-- One step of the division, and a row of steps: what they leave is below 128, and one row after another is both in a row.
+-- Assumes nothing.
+use mathlib.Core.Path.{_≡_, refl, sym, ap, ap₂, _∙_, subst⁻¹}
+use mathlib.Core.Bool.{Bool, cond}
+use mathlib.Core.List.{List, [], _∷_, _++_}
+use mathlib.Core.Logic.{⊎-elim}
+use Prim.Native.Nat.{ℕ, zero, suc, _+_, _-_, _*_, _/_, _%_, _^_, _≤_, _<_}
+use native.Mathlib.Numerals.{add-one}
+use native.Mathlib.Omega.{arith}
+use lib.ListN.{length, getD, drop, replicate, drop-of-length-le}
+use lib.Seq.{drop-cons}
+use lib.Bits.{bitXor, xor-lt, xor-block}
+use borrow.Author.Tests.{lt-ltb, le-ltb}
+use Rattle.laws.proofs.Computed.{apart}
+use Rattle.division.specs.Division.{lowBits, bits, reduce, divide, checkBits}
+use Rattle.division.specs.Polynomials.{Digits, none, more}
+
+-- ---- one step
+
+pub small : (n : ℕ) → n < 128 → reduce n ≡ n
+unfolding reduce
+small n h = ap (λ (t : Bool). cond t n (bitXor n 137)) (lt-ltb n 128 h)
+
+pub large : (n : ℕ) → 128 ≤ n → reduce n ≡ bitXor n 137
+unfolding reduce
+large n h = ap (λ (t : Bool). cond t n (bitXor n 137)) (le-ltb n 128 h)
+
+-- power 7 goes where it stands in both
+pub both-up : (n m : ℕ) → 128 ≤ n → n < 256 → 128 ≤ m → m < 256 → bitXor n m < 128
+both-up n m h k h′ k′ =
+    let p : n ≡ 1 * 2 ^ 7 + (n - 128) = omega arith in
+    let q : m ≡ 1 * 2 ^ 7 + (m - 128) = omega arith in
+    let f : n - 128 < 2 ^ 7 = omega arith in
+    let g : m - 128 < 2 ^ 7 = omega arith in
+    let e : bitXor n m ≡ 0 + bitXor (n - 128) (m - 128) = ap₂ bitXor p q ∙ xor-block 7 1 1 (n - 128) (m - 128) f g in
+    omega (arith, xor-lt 7 (n - 128) (m - 128) f g)
+
+pub reduce-lt : (n : ℕ) → n < 256 → reduce n < 128
+reduce-lt n k =
+    ⊎-elim (λ h. subst⁻¹ (λ (x : ℕ). x < 128) (small n h) h)
+    (λ h. subst⁻¹ (λ (x : ℕ). x < 128) (large n h) (both-up n 137 h k (omega arith) (omega arith))) (apart n 128)
+
+-- ---- rows of bits
+
+pub divide-append : (r : ℕ) (xs ys : List ℕ) → divide r (xs ++ ys) ≡ divide (divide r xs) ys
+unfolding divide
+divide-append r [] ys = refl
+divide-append r (x ∷ xs) ys = divide-append (reduce (r * 2 + x)) xs ys
+
+pub divide-lt : {xs : List ℕ} → Digits xs → (r : ℕ) → r < 128 → divide r xs < 128
+unfolding divide
+divide-lt none r h = h
+divide-lt (more {x = x} k d) r h = divide-lt d (reduce (r * 2 + x)) (reduce-lt (r * 2 + x) (omega (arith, h, k)))
+
+-- ---- rows of bytes
+
+-- one byte brought down
+pub byte-down : (B : List ℕ) (i r : ℕ) → i < length B
+    → divide (divide r (lowBits 8 (getD B i 0))) (bits (drop (i + 1) B)) ≡ divide r (bits (drop i B))
+unfolding bits
+byte-down B i r h =
+    ap (λ (n : ℕ). divide (divide r (lowBits 8 (getD B i 0))) (bits (drop n B))) (add-one i)
+    ∙ sym (ap (λ (l : List ℕ). divide r (bits l)) (drop-cons B i 0 h)
+    ∙ divide-append r (lowBits 8 (getD B i 0)) (bits (drop (suc i) B)))
+
+-- none left
+pub all-down : (B : List ℕ) (i r : ℕ) → length B ≤ i → divide r (bits (drop i B)) ≡ r
+unfolding bits divide
+all-down B i r h = ap (λ (l : List ℕ). divide r (bits l)) (drop-of-length-le B {i = i} h)
+
+-- seven zeros behind the bytes
+pub zeros-behind : (B : List ℕ) → divide (divide 0 (bits B)) (lowBits 7 0) ≡ checkBits B
+unfolding checkBits lowBits
+zeros-behind B = sym (divide-append 0 (bits B) (replicate 7 0))

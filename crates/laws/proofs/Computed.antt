@@ -1,0 +1,54 @@
+-- A test computed at every number below a bound gives its fact at each of them: so a table's rule is proved once, over the
+-- whole table. With it stand the small laws of tests. Assumes nothing.
+use mathlib.Core.Path.{_≡_, refl, subst, subst⁻¹}
+use mathlib.Core.Bool.{Bool, true, false, _&&_}
+use mathlib.Core.Logic.{_⊎_, inl, inr, ⊎-elim}
+use Prim.Native.Nat.{ℕ, zero, suc, _≤_, _<_}
+use native.Mathlib.Nat.{le-of-suc-le-suc, not-suc-le-zero, eq-or-lt-of-le}
+use lib.Dec.{T, ltb}
+use borrow.Author.Tests.{ltb-true, ltb-false}
+
+-- ---- tests
+
+pub and-left : (a b : Bool) → T (a && b) → T a
+and-left true b t = tt
+and-left false b t = t
+
+pub and-right : (a b : Bool) → T (a && b) → T b
+and-right true b t = t
+and-right false b t = absurd t
+
+pub both : (a b : Bool) → T a → T b → T (a && b)
+both true b p q = q
+both false b p q = p
+
+-- a test that holds is true, and one that is true holds
+pub is-true : (t : Bool) → T t → t ≡ true
+is-true true p = refl
+is-true false p = absurd p
+
+pub holds : {t : Bool} → t ≡ true → T t
+holds e = subst⁻¹ T e tt
+
+pub fails : {t : Bool} → t ≡ false → T t → ⊥
+fails e v = subst T e v
+
+-- of two numbers one is less, or not
+pub apart : (a b : ℕ) → (a < b) ⊎ (b ≤ a)
+apart a b = go (ltb a b) refl
+  where
+    go : (t : Bool) → ltb a b ≡ t → (a < b) ⊎ (b ≤ a)
+    go true e = inl (ltb-true a b e)
+    go false e = inr (ltb-false a b e)
+
+-- ---- a test at every number below n
+
+abbrev pub below : (ℕ → Bool) → ℕ → Bool
+below f zero = true
+below f (suc n) = f n && below f n
+
+pub at : (f : ℕ → Bool) (n : ℕ) → T (below f n) → (k : ℕ) → k < n → T (f k)
+at f zero t k h = absurd (not-suc-le-zero h)
+at f (suc n) t k h =
+    ⊎-elim (λ (e : k ≡ n). subst⁻¹ (λ (m : ℕ). T (f m)) e (and-left (f n) (below f n) t))
+    (λ l. at f n (and-right (f n) (below f n) t) k l) (eq-or-lt-of-le (le-of-suc-le-suc h))

@@ -1,0 +1,52 @@
+//! Writes the stored trial scripts into a directory, the same ones each time.
+
+mod block;
+mod block_scripts;
+mod line_scripts;
+mod polynomial;
+mod script;
+mod writing;
+mod xorshift;
+
+use std::env;
+use std::fs;
+use std::path::{Path, PathBuf};
+use std::process::ExitCode;
+
+use script::Script;
+
+/// The file name of each stored script, and what it is made by.
+const STORED: [(&str, fn() -> Script); 7] = [
+    ("cards", block_scripts::cards),
+    ("making", block_scripts::making),
+    ("lengths", block_scripts::lengths),
+    ("hit-once", block_scripts::hit_once),
+    ("hit-twice", block_scripts::hit_twice),
+    ("damaged", block_scripts::damaged),
+    ("lines", line_scripts::lines),
+];
+
+fn main() -> ExitCode {
+    match directory().and_then(|directory| write_all(&directory)) {
+        Ok(()) => ExitCode::SUCCESS,
+        Err(message) => {
+            eprintln!("{message}");
+            ExitCode::FAILURE
+        }
+    }
+}
+
+fn directory() -> Result<PathBuf, String> {
+    let mut arguments = env::args_os().skip(1);
+    match (arguments.next(), arguments.next()) {
+        (Some(directory), None) => Ok(PathBuf::from(directory)),
+        _ => Err("usage: scripts DIR".to_string()),
+    }
+}
+
+fn write_all(directory: &Path) -> Result<(), String> {
+    STORED.iter().try_for_each(|(name, script)| {
+        let path = directory.join(name);
+        fs::write(&path, script().text()).map_err(|error| format!("{}: {error}", path.display()))
+    })
+}
