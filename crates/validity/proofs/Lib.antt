@@ -1,0 +1,8 @@
+pub mod Parities
+pub mod Powers
+pub mod Flips
+pub mod Marks
+pub mod Validity
+pub mod Alone
+pub mod Distance
+pub mod Odd

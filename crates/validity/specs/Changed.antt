@@ -1,0 +1,27 @@
+-- Changed bits. A bit's place counts from 0 in block order: byte 1 first, and weight 1 first in each byte. Assumes nothing.
+use Prim.Native.Nat.{ℕ, suc, _/_, _%_, _^_, _<_}
+use mathlib.Core.Bool.{cond}
+use mathlib.Core.List.{List, [], _∷_}
+use lib.Dec.{eqb}
+use lib.ListN.{getD, set}
+use lib.Bits.{bitXor}
+use Rattle.division.specs.Division.{bits}
+
+-- the block with the bit in place k changed
+unfoldable pub flip : ℕ → List ℕ → List ℕ
+flip k B = set B (k / 8) (bitXor (getD B (k / 8) 0) (2 ^ (k % 8)))
+
+-- C is B, or B with one of its first n bits changed
+pub data Near (n : ℕ) (B : List ℕ) : List ℕ → Type 0 where
+  same : Near n B B
+  changed : (k : ℕ) → k < n → Near n B (flip k B)
+
+-- in how many places two rows of bits differ
+unfoldable pub differences : List ℕ → List ℕ → ℕ
+differences [] ys = 0
+differences (x ∷ xs) [] = 0
+differences (x ∷ xs) (y ∷ ys) = cond (eqb x y) (differences xs ys) (suc (differences xs ys))
+
+-- in how many bits two blocks differ
+unfoldable pub distance : List ℕ → List ℕ → ℕ
+distance B C = differences (bits B) (bits C)

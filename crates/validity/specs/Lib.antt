@@ -1,0 +1,4 @@
+pub mod Parity
+pub mod Block
+pub mod Changed
+pub mod Units
