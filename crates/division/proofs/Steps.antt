@@ -5,6 +5,7 @@ use mathlib.Core.Bool.{Bool, cond}
 use mathlib.Core.List.{List, [], _∷_, _++_}
 use mathlib.Core.Logic.{⊎-elim}
 use Prim.Native.Nat.{ℕ, zero, suc, _+_, _-_, _*_, _/_, _%_, _^_, _≤_, _<_}
+use native.Mathlib.Nat.{zero-lt-suc}
 use native.Mathlib.Numerals.{add-one}
 use native.Mathlib.Omega.{arith}
 use lib.ListN.{length, getD, drop, replicate, drop-of-length-le}
@@ -14,6 +15,7 @@ use borrow.Author.Tests.{lt-ltb, le-ltb}
 use Rattle.laws.proofs.Computed.{apart}
 use Rattle.division.specs.Division.{lowBits, bits, reduce, divide, checkBits}
 use Rattle.division.specs.Polynomials.{Digits, none, more}
+use Rattle.division.proofs.Bytes.{bits-digits, zero-digits, append-digits}
 
 -- ---- one step
 
@@ -72,3 +74,7 @@ all-down B i r h = ap (λ (l : List ℕ). divide r (bits l)) (drop-of-length-le 
 pub zeros-behind : (B : List ℕ) → divide (divide 0 (bits B)) (lowBits 7 0) ≡ checkBits B
 unfolding checkBits lowBits
 zeros-behind B = sym (divide-append 0 (bits B) (replicate 7 0))
+
+pub check-lt : (B : List ℕ) → checkBits B < 128
+unfolding checkBits
+check-lt B = divide-lt (append-digits (bits-digits B) (zero-digits 7)) 0 (zero-lt-suc 127)

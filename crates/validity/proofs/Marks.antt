@@ -3,9 +3,11 @@
 use mathlib.Core.Path.{_≡_, sym, ap, ap₂, _∙_}
 use mathlib.Core.Bool.{Bool, cond}
 use mathlib.Core.List.{List, [], _∷_}
-use Prim.Native.Nat.{ℕ, suc, _+_, _*_, _%_, _<_}
+use Prim.Native.Nat.{ℕ, suc, _+_, _*_, _/_, _%_, _^_, _<_}
+use native.Mathlib.Omega.{arith}
 use lib.Dec.{T, eqb, eqb→eq}
-use lib.ListN.{getD}
+use lib.ListN.{getD, replicate}
+use lib.Seq.{getD-set-other}
 use lib.Bits.{bitXor, xor-block}
 use Rattle.laws.proofs.Computed.{below, at}
 use Rattle.laws.proofs.Sums.{Sum, sum-at}
@@ -53,6 +55,16 @@ unfolding right
 mark-inj i j h k e =
     sym (eqb→eq (placeIn (mark (unit i)) marks) i (at right 136 all-right i h))
     ∙ ap (λ (x : ℕ). placeIn x marks) e ∙ eqb→eq (placeIn (mark (unit j)) marks) j (at right 136 all-right j k)
+
+-- of the first 128 bits the remainder alone tells
+unit-last : (i : ℕ) → i < 128 → getD (unit i) 16 0 ≡ 0
+unit-last i h = getD-set-other (replicate 17 0) (i / 8) 16 (2 ^ (i % 8)) 0 (λ (p : 16 ≡ i / 8). omega arith)
+
+pub remainder-inj : (i j : ℕ) → i < 128 → j < 128 → remainder (unit i) ≡ remainder (unit j) → i ≡ j
+unfolding mark
+remainder-inj i j h k e =
+    mark-inj i j (omega (arith, h)) (omega (arith, k))
+    (ap₂ (λ (x y : ℕ). x * 128 + y) (unit-last i h ∙ sym (unit-last j k)) e)
 
 odd : ℕ → Bool
 odd k = eqb (ones (bits (unit k)) % 2) 1

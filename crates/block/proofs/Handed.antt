@@ -1,0 +1,48 @@
+-- What the reader hands back, and that a verdict other than a refusal is of seventeen bytes. Assumes nothing.
+use mathlib.Core.Path.{_≡_, refl, ap, ap₂, _∙_, subst⁻¹}
+use mathlib.Core.List.{List}
+use Prim.Native.Nat.{ℕ}
+use native.Mathlib.Omega.{arith}
+use lib.ListN.{length, getD}
+use Rattle.validity.proofs.Validity.{valid-length}
+use Rattle.validity.proofs.Alone.{flipped-length}
+use Rattle.numbers.specs.Numbers.{Told}
+use Rattle.block.specs.declared.judging.Verdict.{Verdict}
+use Rattle.block.specs.declared.judging.Verdict.the-variants.{Clean, Mended, Repeat, WrongLength}
+use Rattle.block.specs.Judging.{verdict, told, judged, left, handedBy, handed}
+use Rattle.block.specs.Claims.{Right}
+use Rattle.block.proofs.Verdicts.{is-right}
+
+-- two verdicts that tell the same are the same: only one answer fits
+pub told-one : (v w : Verdict) → told v ≡ told w → v ≡ w
+told-one Clean Clean e = refl
+told-one Clean (Mended k) e = absurd (omega (arith, ap (λ (t : Told). length (t .named)) e))
+told-one Clean Repeat e = absurd (omega (arith, ap (λ (t : Told). t .number) e))
+told-one Clean WrongLength e = absurd (omega (arith, ap (λ (t : Told). t .number) e))
+told-one (Mended j) Clean e = absurd (omega (arith, ap (λ (t : Told). length (t .named)) e))
+told-one (Mended j) (Mended k) e = ap (λ (t : Told). Mended (getD (t .named) 0 0)) e
+told-one (Mended j) Repeat e = absurd (omega (arith, ap (λ (t : Told). t .number) e))
+told-one (Mended j) WrongLength e = absurd (omega (arith, ap (λ (t : Told). t .number) e))
+told-one Repeat Clean e = absurd (omega (arith, ap (λ (t : Told). t .number) e))
+told-one Repeat (Mended k) e = absurd (omega (arith, ap (λ (t : Told). t .number) e))
+told-one Repeat Repeat e = refl
+told-one Repeat WrongLength e = absurd (omega (arith, ap (λ (t : Told). t .number) e))
+told-one WrongLength Clean e = absurd (omega (arith, ap (λ (t : Told). t .number) e))
+told-one WrongLength (Mended k) e = absurd (omega (arith, ap (λ (t : Told). t .number) e))
+told-one WrongLength Repeat e = absurd (omega (arith, ap (λ (t : Told). t .number) e))
+told-one WrongLength WrongLength e = refl
+
+pub told-verdict : (B : List ℕ) (v : Verdict) → told v ≡ judged B → v ≡ verdict B
+unfolding judged
+told-verdict B v e = told-one v (verdict B) e
+
+-- the part of the block left
+pub handed-as : (B C : List ℕ) (v : Verdict) → told v ≡ judged B → C ≡ left B → handedBy v C ≡ handed B
+unfolding handed
+handed-as B C v e f = ap₂ handedBy (told-verdict B v e) f
+
+pub clean-long : (B : List ℕ) → told Clean ≡ judged B → length B ≡ 17
+clean-long B e = valid-length B (subst⁻¹ (Right B) (told-verdict B Clean e) (is-right B))
+
+pub mended-long : (B : List ℕ) (k : ℕ) → told (Mended k) ≡ judged B → length B ≡ 17
+mended-long B k e = flipped-length k B (subst⁻¹ (Right B) (told-verdict B (Mended k) e) (is-right B) .1)

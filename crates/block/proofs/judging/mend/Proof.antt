@@ -1,0 +1,193 @@
+-- `block::judging::mend` meets its contract: each answer is right, and so it is the judged one. Assumes nothing.
+use mathlib.Core.Path.{_≡_, refl, sym, ap, _∙_, subst⁻¹}
+use mathlib.Core.Logic.{⊎-elim}
+use mathlib.Core.List.{List}
+use Prim.Native.Nat.{ℕ, _<_}
+use native.Mathlib.Omega.{arith}
+use lib.ListN.{length, getD, take}
+use lib.Seq.{length-take-le}
+use borrow.Author.Needs.{needs}
+use borrow.Author.Tests.{eqb-true, eqb-false}
+use Rattle.validity.specs.Parity.{odds}
+use Rattle.validity.specs.Block.{remainder}
+use Rattle.validity.specs.Units.{unit}
+use Rattle.validity.proofs.Powers.{remainder-lt}
+use Rattle.block.specs.declared.judging.Verdict.the-variants.{Clean, Mended, Repeat, WrongLength}
+use Rattle.block.proofs.Verdicts.{settled}
+use Rattle.block.proofs.Mending.{not-zero, clean, not-one, not-mendable, elsewhere, mended}
+use Rattle.block.proofs.judging.mend.Statement.{statement}
+use Rattle.block.proofs.judging.mend.Tie as tie
+
+-- ---- what is known once the remainder is: the block has seventeen bytes, and the last is zero
+
+was : tie.After-remainder → List ℕ
+was a = a .before .before .before .before .before .before .before .before .args .block .now
+
+module _ (a : tie.After-remainder) where
+  long : length (was a) ≡ 17
+  unfolding was
+  long = a .before .before .before .before .before .before .if1 .left
+
+  zero-last : getD (was a) 16 0 ≡ 0
+  unfolding was
+  zero-last = a .before .before .before .before .if2 .left
+
+  odd-is : a .before .before .odd-bytes .result ≡ odds (take 16 (was a))
+  unfolding was
+  odd-is = a .before .before .odd-bytes .ensures
+
+  remainder-is : a .remainder .result ≡ remainder (was a)
+  unfolding was
+  remainder-is = a .remainder .ensures
+
+-- ---- and once the block is not clean
+
+not-clean : (j : tie.Joined3) → odds (take 16 (was (j .before))) ≡ 0 → remainder (was (j .before)) ≡ 0 → ⊥
+not-clean j o z =
+    ⊎-elim (λ w. eqb-false (j .before .remainder .result) 0 (w .1 .left) (remainder-is (j .before) ∙ z))
+    (λ w. w .left (odd-is (j .before) ∙ o)) (j .if3 .came)
+
+-- ---- and once one byte alone is odd and the place is found
+
+module _ (p : tie.After-place) where
+  place-was : List ℕ
+  place-was = was (p .before .before .before)
+
+  one-odd : odds (take 16 place-was) ≡ 1
+  unfolding place-was
+  one-odd = sym (odd-is (p .before .before .before)) ∙ p .before .if5 .left
+
+  points : remainder (unit (p .place .result)) ≡ remainder place-was
+  unfolding place-was
+  points = p .place .ensures .1 ∙ remainder-is (p .before .before .before)
+
+returns : tie.Need-returns
+returns c = settled (c .before .before .args .block .now) WrongLength (c .if1 .taken) refl
+
+slice-read-if2 : tie.Need-slice-read-if2
+slice-read-if2 c = search needs
+
+returns-2 : tie.Need-returns-2
+returns-2 c =
+    let e = c .before .before in
+    let b : List ℕ = e .before .before .args .block .now in
+    settled b Repeat (not-zero b (e .if1 .left) (c .if2 .taken)) refl
+
+slice-reshare-prefix-odd-bytes : tie.Need-slice-reshare-prefix-odd-bytes
+slice-reshare-prefix-odd-bytes c = search needs
+
+slice-aggregate-odd-bytes : tie.Need-slice-aggregate-odd-bytes
+slice-aggregate-odd-bytes c =
+    let e = c .before .before .before in sym (length-take-le 16 (e .before .before .args .block .now) (omega arith))
+
+odd-bytes-requires : tie.Need-odd-bytes-requires
+odd-bytes-requires c κs = search needs
+
+remainder-requires : tie.Need-remainder-requires
+remainder-requires c κs = search needs
+
+same-length : tie.Need-same-length
+same-length c = search needs
+
+returns-3 : tie.Need-returns-3
+unfolding was
+returns-3 c =
+    let a = c .before .before in
+    settled (was a) Clean
+    (clean (was a) (long a) (zero-last a) (sym (odd-is a) ∙ c .before .if3 .taken)
+    (sym (remainder-is a) ∙ eqb-true (a .remainder .result) 0 (c .if4 .taken))) refl
+
+same-length-2 : tie.Need-same-length-2
+same-length-2 c = search needs
+
+returns-4 : tie.Need-returns-4
+unfolding was
+returns-4 c =
+    let a = c .before .before in
+    settled (was a) Repeat
+    (not-one (was a) (long a) (not-clean (c .before)) (λ (o : odds (take 16 (was a)) ≡ 1). c .if5 .taken (odd-is a ∙ o))) refl
+
+place-requires : tie.Need-place-requires
+place-requires c κs =
+    let a = c .before .before in
+    subst⁻¹ (λ (x : ℕ). x < 128) (remainder-is a) (remainder-lt (was a))
+
+same-length-3 : tie.Need-same-length-3
+same-length-3 c = search needs
+
+returns-5 : tie.Need-returns-5
+unfolding was place-was
+returns-5 c =
+    let p = c .before in
+    let a = p .before .before .before in
+    settled (was a) Repeat
+    (not-mendable (was a) (long a) (p .place .result) (p .place .ensures .0) (points p) (one-odd p) (c .if6 .taken)) refl
+
+cast-at : tie.Need-cast-at
+cast-at c = search needs
+
+slice-read-is-even : tie.Need-slice-read-is-even
+slice-read-is-even c = search needs
+
+is-even-requires : tie.Need-is-even-requires
+is-even-requires c κs = search needs
+
+same-length-4 : tie.Need-same-length-4
+same-length-4 c = search needs
+
+returns-6 : tie.Need-returns-6
+unfolding was place-was
+returns-6 c =
+    let p = c .before .before .before .before in
+    let a = p .before .before .before in
+    settled (was a) Repeat
+    (elsewhere (was a) (long a) (p .place .result) (p .place .ensures .0) (points p) (one-odd p)
+    (sym (c .before .is-even .ensures) ∙ c .if7 .taken)) refl
+
+cast-flip : tie.Need-cast-flip
+cast-flip c = search needs
+
+flip-requires : tie.Need-flip-requires
+flip-requires c κs = search needs
+
+same-length-5 : tie.Need-same-length-5
+same-length-5 c = search needs
+
+returns-7 : tie.Need-returns-7
+unfolding was place-was
+returns-7 c =
+    let f = c .before .before in
+    let e = f .before .before in
+    let p = e .before .before .before .before in
+    let a = p .before .before .before in
+    settled (was a) (Mended (p .place .result))
+    (mended (was a) (long a) (p .place .result) (p .place .ensures .0) (points p) (one-odd p) (zero-last a)
+    (e .before .before .before .if6 .left) (sym (e .before .is-even .ensures) ∙ e .if7 .left)) (f .flip .ensures)
+
+pub mend-spec : {M : Type 1} → statement M
+mend-spec =
+    tie.close
+    (tie.spec
+    returns
+    slice-read-if2
+    returns-2
+    slice-reshare-prefix-odd-bytes
+    slice-aggregate-odd-bytes
+    odd-bytes-requires
+    remainder-requires
+    same-length
+    returns-3
+    same-length-2
+    returns-4
+    place-requires
+    same-length-3
+    returns-5
+    cast-at
+    slice-read-is-even
+    is-even-requires
+    same-length-4
+    returns-6
+    cast-flip
+    flip-requires
+    same-length-5
+    returns-7)

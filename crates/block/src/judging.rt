@@ -1,0 +1,73 @@
+// The reader.
+use crate::places;
+ghost use mathlib.Core.Path.{_≡_};
+ghost use Rattle.block.specs.Judging.{judged, left, handed, bitNamed, told};
+
+pub enum Verdict {
+    Clean,
+    // The bit that was changed, 0 to 126 in block order.
+    Mended(u8),
+    Repeat,
+    WrongLength,
+}
+
+// A block judged in place, of any length: the verdict, and the block as it is left. One changed bit turns the parity of its
+// byte and leaves its own remainder, so it can be mended where one byte alone is odd and the remainder points into it.
+pub fn mend(block: &mut [u8]) -> Verdict
+    ensures { λ r. ⌜ (told r ≡ judged (now (block .entry))) × (now (block .exit) ≡ left (now (block .entry))) ⌝ }
+{
+    if block.len() != 17 {
+        return Verdict::WrongLength;
+    }
+    if block[16] != 0 {
+        return Verdict::Repeat;
+    }
+    let odd = validity::parity::odd_bytes(&block[..16]);
+    let r = validity::bits::remainder(block);
+    if odd == 0 && r == 0 {
+        return Verdict::Clean;
+    }
+    if odd != 1 {
+        return Verdict::Repeat;
+    }
+    let k = places::place(r);
+    if 127 <= k {
+        return Verdict::Repeat;
+    }
+    let at = (k / 8) as usize;
+    if validity::parity::is_even(block[at]) {
+        return Verdict::Repeat;
+    }
+    validity::bits::flip(block, k as usize);
+    Verdict::Mended(k)
+}
+
+// A block judged, of any length: the first fifteen bytes of the lent block itself, or an empty part. `said` gets the number,
+// `bit` the bit mended or 255 for none.
+pub fn judge<'a>(block: &'a mut [u8], said: &mut u8, bit: &mut u8) -> &'a mut [u8]
+    ensures { λ r. ⌜ (now (said .exit) ≡ judged (now (block .entry)) .number) × (now (bit .exit) ≡ bitNamed (judged (now (block .entry)))) × (now r ≡ handed (now (block .entry))) × (r .ptr ≡ block .entry .ptr) ⌝ }
+{
+    let v = mend(block);
+    match v {
+        Verdict::Clean => {
+            *said = 0;
+            *bit = 255;
+            &mut block[..15]
+        }
+        Verdict::Mended(k) => {
+            *said = 0;
+            *bit = k;
+            &mut block[..15]
+        }
+        Verdict::Repeat => {
+            *said = 3;
+            *bit = 255;
+            &mut block[..0]
+        }
+        Verdict::WrongLength => {
+            *said = 1;
+            *bit = 255;
+            &mut block[..0]
+        }
+    }
+}
