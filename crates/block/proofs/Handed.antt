@@ -1,6 +1,6 @@
 -- What the reader hands back, and that a verdict other than a refusal is of seventeen bytes. Assumes nothing.
 use mathlib.Core.Path.{_≡_, refl, ap, ap₂, _∙_, subst⁻¹}
-use mathlib.Core.List.{List}
+use mathlib.Core.List.{List, []}
 use Prim.Native.Nat.{ℕ}
 use native.Mathlib.Omega.{arith}
 use lib.ListN.{length, getD}
@@ -9,7 +9,7 @@ use Rattle.validity.proofs.Alone.{flipped-length}
 use Rattle.numbers.specs.Numbers.{Told}
 use Rattle.block.specs.declared.judging.Verdict.{Verdict}
 use Rattle.block.specs.declared.judging.Verdict.the-variants.{Clean, Mended, Repeat, WrongLength}
-use Rattle.block.specs.Judging.{verdict, told, judged, left, handedBy, handed}
+use Rattle.block.specs.Judging.{verdict, told, judged, leftBy, left, handedBy, handed}
 use Rattle.block.specs.Claims.{Right}
 use Rattle.block.proofs.Verdicts.{is-right}
 
@@ -46,3 +46,20 @@ clean-long B e = valid-length B (subst⁻¹ (Right B) (told-verdict B Clean e) (
 
 pub mended-long : (B : List ℕ) (k : ℕ) → told (Mended k) ≡ judged B → length B ≡ 17
 mended-long B k e = flipped-length k B (subst⁻¹ (Right B) (told-verdict B (Mended k) e) (is-right B) .1)
+
+-- a refusal leaves the block as it came and hands back nothing
+pub refused-whole : (B : List ℕ) → (judged B .number ≡ 0 → ⊥) → (left B ≡ B) × (handed B ≡ [])
+unfolding judged left handed
+refused-whole B ne = by (verdict B) refl
+  where
+    by : (v : Verdict) → verdict B ≡ v → (leftBy (verdict B) B ≡ B) × (handedBy (verdict B) (leftBy (verdict B) B) ≡ [])
+    by Clean e = absurd (ne (ap (λ (v : Verdict). told v .number) e))
+    by (Mended k) e = absurd (ne (ap (λ (v : Verdict). told v .number) e))
+    by Repeat e = (
+      ap (λ (v : Verdict). leftBy v B) e,
+      ap (λ (v : Verdict). handedBy v (leftBy v B)) e,
+    )
+    by WrongLength e = (
+      ap (λ (v : Verdict). leftBy v B) e,
+      ap (λ (v : Verdict). handedBy v (leftBy v B)) e,
+    )

@@ -5,3 +5,4 @@ pub mod Handed
 pub mod Maker
 pub mod Written
 pub mod Large
+pub mod Numbered

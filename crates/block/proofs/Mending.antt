@@ -8,9 +8,10 @@ use lib.Dec.{T}
 use lib.ListN.{length, getD, take}
 use Rattle.laws.proofs.Computed.{fails, holds}
 use Rattle.validity.specs.Parity.{even, odds}
-use Rattle.validity.specs.Block.{remainder, Valid}
+use Rattle.validity.specs.Block.{codeBits, remainder, Valid}
 use Rattle.validity.specs.Changed.{flip, Near, same, changed}
 use Rattle.validity.specs.Units.{unit}
+use Rattle.validity.proofs.Powers.{code-length}
 use Rattle.validity.proofs.Marks.{remainder-inj}
 use Rattle.validity.proofs.Validity.{valid-even, valid-remainder, valid-last, is-valid}
 use Rattle.validity.proofs.Odd.{Mends, mends-only, mends-where, none-odd, all-even}
@@ -61,3 +62,7 @@ module _ (B : List ℕ) (l : length B ≡ 17) where
     -- it lies in the odd one
     pub mended : getD B 16 0 ≡ 0 → k < mendable → even (getD B (k / 8) 0) ≡ false → Right B (Mended k)
     mended z g e = (g, mends-where k B h l (record { validation = z; alone = o; inside = e; pointed = p }))
+
+-- the mendable bits are the code bits
+pub mendable-is : (B : List ℕ) → length B ≡ 17 → length (codeBits B) ≡ mendable
+mendable-is B l = code-length B l

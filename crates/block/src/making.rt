@@ -63,7 +63,8 @@ fn first_large(values: &[u8]) -> usize
 
 // The block of 1 to 15 values of 0 to 127, in the first seventeen bytes of the output and no others; or why there is none.
 pub fn make(values: &[u8], out: &mut [u8]) -> Made
-    ensures { λ r. ⌜ (told r ≡ makeTold (now (values .entry)) (now (out .entry))) × (now (out .exit) ≡ makeLeft (now (values .entry)) (now (out .entry))) ⌝ }
+    ensures { λ r. ⌜ (told r ≡ makeTold (now (values .entry)) (now (out .entry)))
+        × (now (out .exit) ≡ makeLeft (now (values .entry)) (now (out .entry))) ⌝ }
 {
     let n = values.len();
     if n == 0 {

@@ -1,0 +1,63 @@
+-- The bench cards (01, "The bench cards"), as one list and one statement over it. Assumes nothing.
+use Prim.Native.Nat.{ℕ}
+use mathlib.Core.Path.{_≡_}
+use mathlib.Core.List.{List, [], _∷_, _++_}
+use lib.ListN.{replicate}
+use Rattle.block.specs.declared.judging.Verdict.{Verdict}
+use Rattle.block.specs.declared.judging.Verdict.the-variants.{Mended, Repeat}
+use Rattle.block.specs.Making.{blockOf}
+use Rattle.block.specs.Judging.{verdict, left}
+
+-- values and the block made of them; or a block that arrives, its verdict, and the block left
+pub data Card : Type 0 where
+  made : List ℕ → List ℕ → Card
+  judged : List ℕ → Verdict → List ℕ → Card
+
+abbrev pub Holds : Card → Type 0
+Holds (made vs B) = blockOf vs ≡ B
+Holds (judged B v C) = (verdict B ≡ v) × (left B ≡ C)
+
+abbrev pub EachHolds : List Card → Type 0
+EachHolds [] = Unit {0}
+EachHolds (c ∷ cs) = Holds c × EachHolds cs
+
+abbrev pub zeros : ℕ → List ℕ
+zeros n = replicate n 0
+
+-- byte 16 of W2 follows the order of section 5-1-3: see docs/SOURCES.md
+abbrev pub w1 : List ℕ
+w1 = zeros 17
+
+abbrev pub w2 : List ℕ
+w2 = zeros 14 ++ (192 ∷ 27 ∷ 0 ∷ [])
+
+abbrev pub w3 : List ℕ
+w3 = zeros 14 ++ (64 ∷ 27 ∷ 0 ∷ [])
+
+abbrev pub w4 : List ℕ
+w4 = zeros 15 ++ (1 ∷ 0 ∷ [])
+
+abbrev pub w5 : List ℕ
+w5 = zeros 15 ++ (128 ∷ 0 ∷ [])
+
+abbrev pub w6 : List ℕ
+w6 = zeros 16 ++ (1 ∷ [])
+
+abbrev pub w7 : List ℕ
+w7 = 3 ∷ zeros 16
+
+abbrev pub w8 : List ℕ
+w8 = 1 ∷ 1 ∷ zeros 15
+
+-- W1 to W8
+abbrev pub cards : List Card
+cards =
+    made (zeros 15) w1
+    ∷ made (zeros 14 ++ (64 ∷ [])) w2
+    ∷ judged w3 (Mended 119) w2
+    ∷ judged w4 (Mended 120) w1
+    ∷ judged w5 Repeat w5
+    ∷ judged w6 Repeat w6
+    ∷ judged w7 Repeat w7
+    ∷ judged w8 Repeat w8
+    ∷ []

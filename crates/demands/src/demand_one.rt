@@ -1,0 +1,26 @@
+// Demand 1: any bytes are taken in a finite run; whatever is wrong has its number and leaves lent memory as the papers say.
+// That every call ends, stays within the memory lent to it and asks nothing of its caller is the checker's own verdict: every
+// function is proved total, and no public one has a `requires`.
+ghost use mathlib.Core.Path.{_≡_};
+ghost use mathlib.Core.List.{List, []};
+ghost use Prim.Native.Nat.{ℕ};
+ghost use Rattle.numbers.specs.Numbers.{Conditions, numberOf, GivenExactly};
+ghost use Rattle.block.specs.Making.{makeNumber, makeLeft};
+ghost use Rattle.block.specs.Judging.{judged, left, handed, judgeConditions};
+
+// A number is given exactly when its condition holds and none before it in the order 1, 5, 2, 4, 3 does.
+pub fn each_number_is_given_exactly_when()
+    ensures { λ _. ⌜ ((c : Conditions) → GivenExactly c) ⌝ }
+{}
+
+// The judge's number comes of the paper's conditions: the block has not seventeen bytes, or no valid block is within one
+// mendable bit. (The maker's comes of them by definition.)
+pub fn the_judges_number_is_the_papers()
+    ensures { λ _. ⌜ ((B : List ℕ) → judged B .number ≡ numberOf (judgeConditions B)) ⌝ }
+{}
+
+// A refusal leaves the maker's output as it was; it leaves the lent block as it came, and hands back an empty part.
+pub fn refusals_leave_what_was_lent()
+    ensures making { λ _. ⌜ ((vs O : List ℕ) → (makeNumber vs O ≡ 0 → ⊥) → makeLeft vs O ≡ O) ⌝ }
+    ensures judging { λ _. ⌜ ((B : List ℕ) → (judged B .number ≡ 0 → ⊥) → (left B ≡ B) × (handed B ≡ [])) ⌝ }
+{}

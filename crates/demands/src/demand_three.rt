@@ -1,0 +1,44 @@
+// Demand 3: what is handed on is the only valid block within one changed code bit of what arrived; a repeat is asked exactly when
+// there is none. A valid block hit once comes back whole; hit at any two of its 136 bits it is refused.
+ghost use mathlib.Core.Path.{_≡_};
+ghost use mathlib.Core.List.{List};
+ghost use mathlib.Core.Logic.{_↔_};
+ghost use Prim.Native.Nat.{ℕ, _≤_, _<_};
+ghost use lib.ListN.{length};
+ghost use Rattle.validity.specs.Block.{Valid, Bytes};
+ghost use Rattle.validity.specs.Changed.{flip, distance};
+ghost use Rattle.block.specs.declared.judging.Verdict.the-variants.{Clean, Mended, Repeat};
+ghost use Rattle.block.specs.Judging.{verdict, left, mendable};
+ghost use Rattle.block.specs.Claims.{NoneNear, OnlyNear};
+
+// What is handed on is valid, within one mendable bit of what arrived, and the only such block.
+pub fn handed_on_is_the_only_valid_block_near()
+    ensures { λ _. ⌜ ((B : List ℕ) → length B ≡ 17 → (verdict B ≡ Repeat → ⊥) → OnlyNear B (left B)) ⌝ }
+{}
+
+pub fn a_repeat_is_asked_exactly_when_none_is_near()
+    ensures { λ _. ⌜ ((B : List ℕ) → length B ≡ 17 → verdict B ≡ Repeat ↔ NoneNear B) ⌝ }
+{}
+
+// The verdict names the bit that was hit.
+pub fn hit_once_comes_back_whole()
+    ensures { λ _. ⌜ ((W : List ℕ) (k : ℕ) → Valid W → k < mendable
+        → (verdict (flip k W) ≡ Mended k) × (left (flip k W) ≡ W)) ⌝ }
+{}
+
+// Refused, and left as it came.
+pub fn hit_at_any_two_bits_is_refused()
+    ensures { λ _. ⌜ ((W : List ℕ) (i j : ℕ) → Valid W → i < 136 → j < 136 → (i ≡ j → ⊥)
+        → (verdict (flip i (flip j W)) ≡ Repeat) × (left (flip i (flip j W)) ≡ flip i (flip j W))) ⌝ }
+{}
+
+pub fn hit_at_three_bits_is_never_clean()
+    ensures { λ _. ⌜ ((W : List ℕ) (h i j : ℕ) → Valid W → h < 136 → i < 136 → j < 136
+        → verdict (flip h (flip i (flip j W))) ≡ Clean → ⊥) ⌝ }
+{}
+
+// Two different valid blocks of bytes differ in at least four of their 136 bits.
+pub fn valid_blocks_lie_four_bits_apart()
+    ensures { λ _. ⌜ ((C : List ℕ) → length C ≡ 17 → Bytes C → (B : List ℕ) → Bytes B
+        → Valid B → Valid C → (B ≡ C → ⊥) → 4 ≤ distance B C) ⌝ }
+{}
