@@ -37,7 +37,7 @@ pub fn form(values: &[u8]) -> Block {
 }
 
 pub fn has_even_parity(byte: u8) -> bool {
-    byte.count_ones() % 2 == 0
+    byte.count_ones().is_multiple_of(2)
 }
 
 /// The 127 code bits, each at its power.

@@ -1,12 +1,10 @@
 //! The family of commands on blocks: `make` and `judge`.
 
 use crate::judge::{self, Judgement};
+use crate::limits::MOST_BYTES;
 use crate::maker::{self, Refusal};
 use crate::trial::Family;
 use crate::{reading, writing};
-
-/// The most values, bytes of a block, or bytes of room in a command.
-const MOST: usize = 64;
 
 /// What the maker's output holds before the call.
 const UNTOUCHED: u8 = 0xee;
@@ -18,11 +16,11 @@ impl Family for BlockCommands {
     fn answer(&mut self, words: &[&str]) -> Option<String> {
         match words {
             ["make", values, room] => {
-                let values = reading::bytes(values, MOST)?;
-                let room = reading::decimal(room, MOST)?;
+                let values = reading::bytes(values, MOST_BYTES)?;
+                let room = reading::decimal(room, MOST_BYTES)?;
                 Some(make(&values, room))
             }
-            ["judge", block] => Some(judge(reading::bytes(block, MOST)?)),
+            ["judge", block] => Some(judge(reading::bytes(block, MOST_BYTES)?)),
             _ => None,
         }
     }

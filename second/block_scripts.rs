@@ -1,12 +1,10 @@
 //! The stored scripts that try the commands on blocks.
 
 use crate::block::{self, Block, BITS, LENGTH, USEFUL};
+use crate::limits::MOST_BYTES;
 use crate::script::Script;
 use crate::writing;
 use crate::xorshift::Xorshift;
-
-/// The most values, bytes of a block, or bytes of room in a command.
-const MOST: usize = 64;
 
 // Each script has a seed of its own, so that a change in one leaves the others.
 const MAKING_SEED: u64 = 0x6d61_6b69_6e67_2031;
@@ -24,7 +22,8 @@ pub fn judge(block: &[u8]) -> String {
     format!("judge {}", writing::bytes(block))
 }
 
-/// The bench cards, written out as the page gives them.
+/// The bench cards, written out as the page gives them, W2 as section 5-1-3
+/// has it.
 pub fn cards() -> Script {
     let w1 = [0; LENGTH];
     let w2 = with_byte(with_byte(w1, 15, 192), 16, 27);
@@ -68,7 +67,7 @@ pub fn lengths() -> Script {
     let mut script = Script::trying("Judging lengths right and wrong.");
     let mut random = Xorshift::new(LENGTHS_SEED);
     let valid = random_block(&mut random);
-    for length in [0, 1, 15, 16, 17, 18, 34, MOST] {
+    for length in [0, 1, 15, 16, 17, 18, 34, MOST_BYTES] {
         script.comment(&format!(
             "{length}: zeros, random, and a valid block cut or run on"
         ));
@@ -138,7 +137,7 @@ fn with_byte(mut block: Block, number: usize, byte: u8) -> Block {
 
 fn every_count(script: &mut Script, random: &mut Xorshift) {
     script.comment("0 to 64 values");
-    for count in 0..=MOST {
+    for count in 0..=MOST_BYTES {
         script.line(make(&random_values(random, count), LENGTH));
     }
 }
@@ -191,7 +190,7 @@ fn large_values(script: &mut Script, random: &mut Xorshift) {
 fn every_room(script: &mut Script, random: &mut Xorshift) {
     script.comment("outputs of 0 to 64 bytes");
     let values = random_values(random, USEFUL);
-    for room in 0..=MOST {
+    for room in 0..=MOST_BYTES {
         script.line(make(&values, room));
     }
 }
@@ -200,7 +199,7 @@ fn several_refusals(script: &mut Script, random: &mut Xorshift) {
     script.comment("several refusals at once: 1 before 2 before 4");
     for room in [0, 1, 16, 17, 18] {
         script.line(make(&[], room));
-        for count in [1, 15, 16, MOST] {
+        for count in [1, 15, 16, MOST_BYTES] {
             let good = random_values(random, count);
             let bad = with_value(good.clone(), count - 1, 128);
             script.line(make(&good, room));
@@ -218,7 +217,7 @@ fn random_makings(script: &mut Script, random: &mut Xorshift) {
             let place = random.below(count);
             values = with_value(values, place, 128 + random.below(128) as u8);
         }
-        script.line(make(&values, random.below(MOST + 1)));
+        script.line(make(&values, random.below(MOST_BYTES + 1)));
     }
 }
 

@@ -1,13 +1,8 @@
 //! The stored script that tries the reading of lines.
 
 use crate::block_scripts::{judge, make};
+use crate::limits::{LONGEST_LINE, MOST_BYTES};
 use crate::script::Script;
-
-/// A longer line is no command.
-const LONGEST_LINE: usize = 9_000;
-
-/// The most bytes or room in a command on blocks.
-const MOST: usize = 64;
 
 /// A good command after bad lines shows that nothing of them is left over.
 const GOOD: &str = "make 41 17";
@@ -177,7 +172,7 @@ fn no_commands(script: &mut Script) {
 
 fn limits(script: &mut Script) {
     script.comment("nothing, the most, and one more");
-    for count in [0, MOST, MOST + 1] {
+    for count in [0, MOST_BYTES, MOST_BYTES + 1] {
         script.line(make(&[0x41], count));
         script.line(make(&vec![0x41; count], 17));
         script.line(make(&vec![0x41; count], count));

@@ -4,6 +4,7 @@
 mod block;
 mod block_commands;
 mod judge;
+mod limits;
 mod maker;
 mod polynomial;
 mod reading;

@@ -2,6 +2,7 @@
 
 mod block;
 mod block_scripts;
+mod limits;
 mod line_scripts;
 mod polynomial;
 mod script;
@@ -15,8 +16,11 @@ use std::process::ExitCode;
 
 use script::Script;
 
-/// The file name of each stored script, and what it is made by.
-const STORED: [(&str, fn() -> Script); 7] = [
+/// The file name of a stored script, and what writes its text.
+type Stored = (&'static str, fn() -> Script);
+
+/// Every stored script. A new family of commands adds its own here.
+const STORED: [Stored; 7] = [
     ("cards", block_scripts::cards),
     ("making", block_scripts::making),
     ("lengths", block_scripts::lengths),

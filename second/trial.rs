@@ -3,10 +3,8 @@
 use std::io::{self, BufRead, Write};
 
 use crate::block_commands::BlockCommands;
+use crate::limits::LONGEST_LINE;
 use crate::reading;
-
-/// A line of more characters is no command.
-const LONGEST_LINE: usize = 9_000;
 
 /// A family of commands, with the state that they act on.
 pub trait Family {

@@ -2,7 +2,4 @@ pub mod Verdicts
 pub mod Mending
 pub mod Pointed
 pub mod Handed
-pub mod Maker
-pub mod Written
-pub mod Large
-pub mod Numbered
+pub mod Returned

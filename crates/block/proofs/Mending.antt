@@ -7,7 +7,7 @@ use native.Mathlib.Omega.{arith}
 use lib.Dec.{T}
 use lib.ListN.{length, getD, take}
 use Rattle.laws.proofs.Computed.{fails, holds}
-use Rattle.validity.specs.Parity.{even, odds}
+use Rattle.parity.specs.Parity.{even, odds}
 use Rattle.validity.specs.Block.{codeBits, remainder, Valid}
 use Rattle.validity.specs.Changed.{flip, Near, same, changed}
 use Rattle.validity.specs.Units.{unit}

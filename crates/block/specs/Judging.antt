@@ -1,8 +1,8 @@
 -- What the reader says, leaves and hands on, for any bytes (01, "Judging", "Numbers given"): the long way round, so that it is
 -- believed at sight. Assumes nothing.
-use Prim.Native.Nat.{ℕ, zero, suc, _%_}
+use Prim.Native.Nat.{ℕ, zero, suc}
 use mathlib.Core.Bool.{Bool, false, cond, _||_, _&&_, not}
-use mathlib.Core.List.{List, [], _∷_, map}
+use mathlib.Core.List.{List, [], _∷_}
 use lib.Dec.{eqb}
 use lib.ListN.{length, take}
 use Rattle.numbers.specs.Numbers.{Conditions, Told}
@@ -63,10 +63,6 @@ firstOr255 (k ∷ ks) = k
 
 abbrev pub bitNamed : Told → ℕ
 bitNamed t = firstOr255 (t .named)
-
--- the fifteen values of a block: "passed on without parity"
-abbrev pub valuesOf : List ℕ → List ℕ
-valuesOf B = map (λ (b : ℕ). b % 128) (take 15 B)
 
 -- one of the first n bits mends B
 unfoldable pub oneMends : ℕ → List ℕ → Bool

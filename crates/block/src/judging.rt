@@ -23,8 +23,8 @@ pub fn mend(block: &mut [u8]) -> Verdict
     if block[16] != 0 {
         return Verdict::Repeat;
     }
-    let odd = validity::parity::odd_bytes(&block[..16]);
-    let r = validity::bits::remainder(block);
+    let odd = parity::odd_bytes(&block[..16]);
+    let r = validity::remainder(block);
     if odd == 0 && r == 0 {
         return Verdict::Clean;
     }
@@ -36,10 +36,10 @@ pub fn mend(block: &mut [u8]) -> Verdict
         return Verdict::Repeat;
     }
     let at = (k / 8) as usize;
-    if validity::parity::is_even(block[at]) {
+    if parity::is_even(block[at]) {
         return Verdict::Repeat;
     }
-    validity::bits::flip(block, k as usize);
+    validity::flip(block, k as usize);
     Verdict::Mended(k)
 }
 
@@ -58,9 +58,9 @@ pub fn judge<'a>(block: &'a mut [u8], said: &mut u8, bit: &mut u8) -> &'a mut [u
             *bit = 255;
             &mut block[..15]
         }
-        Verdict::Mended(k) => {
+        Verdict::Mended(b) => {
             *said = 0;
-            *bit = k;
+            *bit = b;
             &mut block[..15]
         }
         Verdict::Repeat => {

@@ -2,10 +2,10 @@
 use mathlib.Core.Path.{_≡_, refl}
 use mathlib.Core.List.{_∷_, _++_}
 use Rattle.division.specs.Division.{lowBits, bits, reduce, divide, checkBits}
-use Rattle.validity.specs.Parity.{ones, even, allEven, withParity}
+use Rattle.parity.specs.Parity.{ones, even, allEven, withParity}
 use Rattle.validity.specs.Block.{codeBits, remainder, valid, Valid}
 use Rattle.validity.specs.Changed.{flip, differences, distance}
-use Rattle.block.specs.Making.{useful, sealed, blockOf}
+use Rattle.maker.specs.Making.{useful, sealed, blockOf}
 use Rattle.block.specs.Judging.{tryFrom, verdict, left}
 use Rattle.demands.specs.Cards.{EachHolds, cards, zeros, w1}
 

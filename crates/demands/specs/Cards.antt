@@ -5,7 +5,7 @@ use mathlib.Core.List.{List, [], _∷_, _++_}
 use lib.ListN.{replicate}
 use Rattle.block.specs.declared.judging.Verdict.{Verdict}
 use Rattle.block.specs.declared.judging.Verdict.the-variants.{Mended, Repeat}
-use Rattle.block.specs.Making.{blockOf}
+use Rattle.maker.specs.Making.{blockOf}
 use Rattle.block.specs.Judging.{verdict, left}
 
 -- values and the block made of them; or a block that arrives, its verdict, and the block left

@@ -5,7 +5,7 @@ ghost use mathlib.Core.Path.{_≡_};
 ghost use mathlib.Core.List.{List, []};
 ghost use Prim.Native.Nat.{ℕ};
 ghost use Rattle.numbers.specs.Numbers.{Conditions, numberOf, GivenExactly};
-ghost use Rattle.block.specs.Making.{makeNumber, makeLeft};
+ghost use Rattle.maker.specs.Making.{makeNumber, makeLeft};
 ghost use Rattle.block.specs.Judging.{judged, left, handed, judgeConditions};
 
 // A number is given exactly when its condition holds and none before it in the order 1, 5, 2, 4, 3 does.

@@ -11,29 +11,24 @@ ghost use Rattle.block.specs.declared.judging.Verdict.the-variants.{Clean, Mend
 ghost use Rattle.block.specs.Judging.{verdict, left, mendable};
 ghost use Rattle.block.specs.Claims.{NoneNear, OnlyNear};
 
-// What is handed on is valid, within one mendable bit of what arrived, and the only such block.
+// What is handed on is valid, within one mendable bit of what arrived, and the only such block; a repeat is asked exactly when
+// there is none.
 pub fn handed_on_is_the_only_valid_block_near()
-    ensures { λ _. ⌜ ((B : List ℕ) → length B ≡ 17 → (verdict B ≡ Repeat → ⊥) → OnlyNear B (left B)) ⌝ }
+    ensures only { λ _. ⌜ ((B : List ℕ) → length B ≡ 17 → (verdict B ≡ Repeat → ⊥) → OnlyNear B (left B)) ⌝ }
+    ensures asked { λ _. ⌜ ((B : List ℕ) → length B ≡ 17 → verdict B ≡ Repeat ↔ NoneNear B) ⌝ }
 {}
 
-pub fn a_repeat_is_asked_exactly_when_none_is_near()
-    ensures { λ _. ⌜ ((B : List ℕ) → length B ≡ 17 → verdict B ≡ Repeat ↔ NoneNear B) ⌝ }
-{}
-
-// The verdict names the bit that was hit.
+// A valid block hit at any one mendable bit comes back whole, and the verdict names that bit.
 pub fn hit_once_comes_back_whole()
     ensures { λ _. ⌜ ((W : List ℕ) (k : ℕ) → Valid W → k < mendable
         → (verdict (flip k W) ≡ Mended k) × (left (flip k W) ≡ W)) ⌝ }
 {}
 
-// Refused, and left as it came.
-pub fn hit_at_any_two_bits_is_refused()
-    ensures { λ _. ⌜ ((W : List ℕ) (i j : ℕ) → Valid W → i < 136 → j < 136 → (i ≡ j → ⊥)
+// A valid block hit at any two different bits of all 136 is refused and left as it came; hit at three it is never clean.
+pub fn hit_twice_is_refused()
+    ensures twice { λ _. ⌜ ((W : List ℕ) (i j : ℕ) → Valid W → i < 136 → j < 136 → (i ≡ j → ⊥)
         → (verdict (flip i (flip j W)) ≡ Repeat) × (left (flip i (flip j W)) ≡ flip i (flip j W))) ⌝ }
-{}
-
-pub fn hit_at_three_bits_is_never_clean()
-    ensures { λ _. ⌜ ((W : List ℕ) (h i j : ℕ) → Valid W → h < 136 → i < 136 → j < 136
+    ensures thrice { λ _. ⌜ ((W : List ℕ) (h i j : ℕ) → Valid W → h < 136 → i < 136 → j < 136
         → verdict (flip h (flip i (flip j W))) ≡ Clean → ⊥) ⌝ }
 {}
 

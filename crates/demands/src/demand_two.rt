@@ -10,9 +10,9 @@ ghost use Rattle.division.specs.Polynomials.{polynomial, GeneratorDivides};
 ghost use Rattle.validity.specs.Block.{codeBits, remainder, Valid, Bytes};
 ghost use Rattle.validity.specs.Changed.{flip};
 ghost use Rattle.validity.specs.Units.{unit};
+ghost use Rattle.maker.specs.Making.{Values, useful, blockOf, valuesOf};
 ghost use Rattle.block.specs.declared.judging.Verdict.the-variants.{Clean};
-ghost use Rattle.block.specs.Making.{Values, useful, blockOf};
-ghost use Rattle.block.specs.Judging.{verdict, handed, valuesOf, mendable};
+ghost use Rattle.block.specs.Judging.{verdict, handed, mendable};
 
 // The remainder is zero exactly when the generator x^7 + x^3 + 1 divides the code bits as a polynomial.
 pub fn nothing_is_left_exactly_when_the_generator_divides()
@@ -20,14 +20,11 @@ pub fn nothing_is_left_exactly_when_the_generator_divides()
 {}
 
 // The bit in place k of bytes 1 to 15 stands for power 126 - k; weight 2^i of byte 16, in place 120 + i, stands for power i.
+// There are as many code bits as bits that may be mended.
 pub fn each_code_bit_stands_for_its_power()
     ensures useful { λ _. ⌜ ((k : ℕ) → k < 120 → polynomial 0 (codeBits (unit k)) ≡ 2 ^ (126 - k)) ⌝ }
     ensures check { λ _. ⌜ ((i : ℕ) → i < 7 → polynomial 0 (codeBits (unit (120 + i))) ≡ 2 ^ i) ⌝ }
-{}
-
-// There are as many code bits as mendable ones.
-pub fn the_mendable_bits_are_the_code_bits()
-    ensures { λ _. ⌜ ((B : List ℕ) → length B ≡ 17 → length (codeBits B) ≡ mendable) ⌝ }
+    ensures mendable { λ _. ⌜ ((B : List ℕ) → length B ≡ 17 → length (codeBits B) ≡ mendable) ⌝ }
 {}
 
 // Changing bit k changes exactly the bit in place k of block order.

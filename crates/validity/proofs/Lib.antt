@@ -1,4 +1,3 @@
-pub mod Parities
 pub mod Powers
 pub mod Flips
 pub mod Marks

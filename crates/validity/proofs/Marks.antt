@@ -12,7 +12,7 @@ use lib.Bits.{bitXor, xor-block}
 use Rattle.laws.proofs.Computed.{below, at}
 use Rattle.laws.proofs.Sums.{Sum, sum-at}
 use Rattle.division.specs.Division.{lowBits, bits, reduce, divide}
-use Rattle.validity.specs.Parity.{ones}
+use Rattle.parity.specs.Parity.{ones}
 use Rattle.validity.specs.Block.{codeBits, remainder}
 use Rattle.validity.specs.Units.{unit}
 use Rattle.validity.proofs.Powers.{remainder-sum, remainder-lt}

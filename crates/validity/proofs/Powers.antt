@@ -22,7 +22,7 @@ use Rattle.division.proofs.Linear.{divide-sum, low-sum, bits-sum, sum-reverse}
 use Rattle.division.proofs.Divides.{nothing-left}
 use Rattle.validity.specs.Block.{codeBits, remainder}
 use Rattle.validity.specs.Units.{unit}
-use Rattle.validity.proofs.Parities.{seven}
+use Rattle.parity.proofs.Parities.{seven}
 
 -- ---- the row of code bits
 

@@ -7,7 +7,7 @@ use lib.Dec.{T, eqb, eqb→eq}
 use lib.ListN.{length, getD, take}
 use borrow.Author.Tests.{eq-eqb}
 use Rattle.laws.proofs.Computed.{and-left, and-right, both, holds}
-use Rattle.validity.specs.Parity.{allEven}
+use Rattle.parity.specs.Parity.{allEven}
 use Rattle.validity.specs.Block.{remainder, valid, Valid}
 
 module _ (B : List ℕ) (v : Valid B) where

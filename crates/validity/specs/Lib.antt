@@ -1,4 +1,3 @@
-pub mod Parity
 pub mod Block
 pub mod Changed
 pub mod Units

@@ -8,7 +8,7 @@ use lib.ListN.{length, getD, take}
 use lib.Seq.{length-take-le}
 use borrow.Author.Needs.{needs}
 use borrow.Author.Tests.{eqb-true, eqb-false}
-use Rattle.validity.specs.Parity.{odds}
+use Rattle.parity.specs.Parity.{odds}
 use Rattle.validity.specs.Block.{remainder}
 use Rattle.validity.specs.Units.{unit}
 use Rattle.validity.proofs.Powers.{remainder-lt}

@@ -1,6 +1,6 @@
 -- The theorem is proved where its words are. Assumes nothing.
 use mathlib.Core.Path.{sym}
-use Rattle.block.proofs.Numbered.{refused}
+use Rattle.maker.proofs.Numbered.{refused}
 use Rattle.block.proofs.Handed.{refused-whole}
 use Rattle.demands.proofs.demand_one.refusals_leave_what_was_lent.Statement.{statement}
 use Rattle.demands.proofs.demand_one.refusals_leave_what_was_lent.Tie as tie

@@ -1,5 +1,5 @@
 -- The theorem is proved where its words are. Assumes nothing.
-use Rattle.block.proofs.Maker.{clean-made}
+use Rattle.block.proofs.Returned.{clean-made}
 use Rattle.demands.proofs.demand_two.read_clean_is_what_the_maker_writes.Statement.{statement}
 use Rattle.demands.proofs.demand_two.read_clean_is_what_the_maker_writes.Tie as tie
 

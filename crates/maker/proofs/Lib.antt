@@ -1,0 +1,4 @@
+pub mod Blocks
+pub mod Written
+pub mod Large
+pub mod Numbered

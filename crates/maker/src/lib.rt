@@ -1,0 +1,91 @@
+// The maker of blocks (01, "The block", "Numbers given"; 001, section 5-1-3).
+//
+// `make` writes the block of 1 to 15 values into the first seventeen bytes of a lent output. specs/Making says what it tells and
+// leaves, for any values and any output. proofs/Blocks shows that what it writes is valid and carries the values, and that
+// every valid block of bytes is what it writes for that block's values.
+ghost use Prim.Native.Nat.{_≤_};
+ghost use mathlib.Core.Path.{_≡_};
+ghost use mathlib.Core.List.{_++_};
+ghost use lib.ListN.{length, getD, take, drop};
+ghost use Rattle.maker.specs.Making.{useful, sealed, firstLarge, told, makeTold, makeLeft};
+
+pub enum Made {
+    Taken,
+    WrongLength,
+    // The lowest place of a value above 127, counted from 0.
+    TooLarge(usize),
+    NoRoom,
+}
+
+// The useful byte at i: a value with parity, or NUL past the values.
+fn useful_at(values: &[u8], i: usize) -> u8
+    ensures { λ r. ⌜ r ≡ getD (useful (now (values .entry))) i 0 ⌝ }
+{
+    if i < values.len() {
+        parity::with_parity(values[i])
+    } else {
+        0
+    }
+}
+
+// The fifteen useful bytes.
+fn fill(values: &[u8], out: &mut [u8])
+    requires { ⌜ (length (now values) ≤ 15) × (17 ≤ length (now out)) ⌝ }
+    ensures { λ _. ⌜ now (out .exit) ≡ useful (now (values .entry)) ++ drop 15 (now (out .entry)) ⌝ }
+{
+    let mut i: usize = 0;
+    while i < 15 {
+        out[i] = useful_at(values, i);
+        i += 1;
+    }
+}
+
+// Bytes 16 and 17, from the fifteen before them.
+fn seal(out: &mut [u8])
+    requires { ⌜ 17 ≤ length (now out) ⌝ }
+    ensures { λ _. ⌜ now (out .exit) ≡ sealed (take 15 (now (out .entry))) ++ drop 17 (now (out .entry)) ⌝ }
+{
+    let c = division::check_bits(&out[..15]);
+    out[15] = parity::with_parity(c);
+    out[16] = 0;
+}
+
+// The lowest place of a value above 127, or the number of values.
+fn first_large(values: &[u8]) -> usize
+    ensures { λ r. ⌜ r ≡ firstLarge (now (values .entry)) ⌝ }
+{
+    let n = values.len();
+    let mut left = n;
+    while 0 < left {
+        let at = n - left;
+        if 127 < values[at] {
+            return at;
+        }
+        left -= 1;
+    }
+    n
+}
+
+// The block of 1 to 15 values of 0 to 127, in the first seventeen bytes of the output and no others; or why there is none.
+pub fn make(values: &[u8], out: &mut [u8]) -> Made
+    ensures { λ r. ⌜ (told r ≡ makeTold (now (values .entry)) (now (out .entry)))
+        × (now (out .exit) ≡ makeLeft (now (values .entry)) (now (out .entry))) ⌝ }
+{
+    let n = values.len();
+    if n == 0 {
+        return Made::WrongLength;
+    }
+    if 15 < n {
+        return Made::WrongLength;
+    }
+    let at = first_large(values);
+    if at < n {
+        return Made::TooLarge(at);
+    }
+    if out.len() < 17 {
+        return Made::NoRoom;
+    }
+    fill(values, out);
+    seal(out);
+    Made::Taken
+}

@@ -1,0 +1,181 @@
+-- Laws of parity: it adds up like the bits do, a value with parity is even, and only its seven low bits count. Assumes nothing.
+use mathlib.Core.Path.{_≡_, refl, sym, ap, ap₂, _∙_}
+use mathlib.Core.Bool.{Bool, true, false, cond}
+use mathlib.Core.List.{List, [], _∷_, _++_}
+use Prim.Native.Nat.{ℕ, zero, suc, _+_, _-_, _*_, _/_, _%_, _≤_, _<_}
+use native.Mathlib.Nat.{add-mod, mod-lt, zero-lt-suc}
+use native.Mathlib.Numerals.{add-one}
+use native.Mathlib.Omega.{arith}
+use lib.ListN.{length, getD, drop, drop-of-length-le}
+use lib.Seq.{drop-cons}
+use lib.Dec.{T, eqb, eqb→eq}
+use lib.Bits.{bitXor, differ}
+use borrow.Author.Tests.{eq-eqb}
+use Rattle.laws.proofs.Computed.{below, at, and-left, and-right}
+use Rattle.laws.proofs.Xor.{xor-odd, digit-sum}
+use Rattle.laws.proofs.Sums.{Sum, none, more}
+use Rattle.division.specs.Division.{lowBits, bits}
+use Rattle.division.specs.Polynomials.{Digits}
+use Rattle.division.specs.Polynomials
+use Rattle.division.proofs.Bytes.{low-digits}
+use Rattle.division.proofs.Linear.{low-sum}
+use Rattle.parity.specs.Parity.{ones, even, allEven, odds, withParity}
+
+-- ---- ones add up, but for pairs that cancel
+
+par : (d x y u s t : ℕ) → d % 2 ≡ (x + y) % 2 → u % 2 ≡ (s + t) % 2 → (d + u) % 2 ≡ ((x + s) + (y + t)) % 2
+par d x y u s t p q =
+    let e : (x + y) + (s + t) ≡ (x + s) + (y + t) = omega arith in
+    add-mod d u 2 ∙ ap₂ (λ (i j : ℕ). (i + j) % 2) p q ∙ sym (add-mod (x + y) (s + t) 2) ∙ ap (λ (i : ℕ). i % 2) e
+
+same-digit : (x : ℕ) → x < 2 → x % 2 ≡ x
+same-digit x h = omega arith
+
+digits-xor : (x y : ℕ) → x < 2 → y < 2 → bitXor x y % 2 ≡ (x + y) % 2
+digits-xor x y h k =
+    xor-odd x y ∙ ap₂ differ (same-digit x h) (same-digit y k) ∙ sym (small-differ x y h k) ∙ digit-sum x y h k
+  where
+    small-differ : (x y : ℕ) → x < 2 → y < 2 → differ x y % 2 ≡ differ x y
+    small-differ zero zero h k = refl
+    small-differ zero (suc zero) h k = refl
+    small-differ zero (suc (suc y)) h k = absurd (omega (arith, k))
+    small-differ (suc zero) zero h k = refl
+    small-differ (suc zero) (suc zero) h k = refl
+    small-differ (suc zero) (suc (suc y)) h k = absurd (omega (arith, k))
+    small-differ (suc (suc x)) y h k = absurd (omega (arith, h))
+
+pub ones-sum : {xs ys zs : List ℕ} → Sum xs ys zs → Digits xs → Digits ys → ones zs % 2 ≡ (ones xs + ones ys) % 2
+unfolding ones
+ones-sum none d e = refl
+ones-sum (more {a = a} {b = b} {A = xs} {B = ys} {C = zs} t) (Polynomials.more h d) (Polynomials.more k e) =
+    par (bitXor a b) a b (ones zs) (ones xs) (ones ys) (digits-xor a b h k) (ones-sum t d e)
+
+pub ones-append : (xs ys : List ℕ) → ones (xs ++ ys) ≡ ones xs + ones ys
+unfolding ones
+ones-append [] ys = omega arith
+ones-append (x ∷ xs) ys = let e : ones (xs ++ ys) ≡ ones xs + ones ys = ones-append xs ys in omega arith
+
+pub even-ones : (A : List ℕ) → T (allEven A) → ones (bits A) % 2 ≡ 0
+unfolding allEven bits even ones
+even-ones [] t = refl
+even-ones (a ∷ A) t =
+    ap (λ (x : ℕ). x % 2) (ones-append (lowBits 8 a) (bits A)) ∙ add-mod (ones (lowBits 8 a)) (ones (bits A)) 2
+    ∙ ap₂ (λ (x y : ℕ). (x + y) % 2) (eqb→eq (ones (lowBits 8 a) % 2) 0 (and-left (even a) (allEven A) t))
+    (even-ones A (and-right (even a) (allEven A) t))
+
+-- the sum of two even bytes is even
+pub even-xor : (a b : ℕ) → T (even a) → T (even b) → even (bitXor a b) ≡ true
+unfolding even
+even-xor a b p q =
+    eq-eqb (ones (lowBits 8 (bitXor a b)) % 2) 0 (ones-sum (low-sum 8 a b) (low-digits 8 a) (low-digits 8 b)
+    ∙ add-mod (ones (lowBits 8 a)) (ones (lowBits 8 b)) 2
+    ∙ ap₂ (λ (x y : ℕ). (x + y) % 2) (eqb→eq (ones (lowBits 8 a) % 2) 0 p) (eqb→eq (ones (lowBits 8 b) % 2) 0 q))
+
+-- ---- a value with parity
+
+-- only the n low bits are read
+doubled : ℕ → ℕ → ℕ
+doubled zero q = q
+doubled (suc n) q = doubled n q * 2
+
+low-only : (n m q : ℕ) → lowBits n (m + doubled n q) ≡ lowBits n m
+unfolding lowBits doubled
+low-only zero m q = refl
+low-only (suc n) m q =
+    let x : (m + doubled n q * 2) % 2 ≡ m % 2 = omega arith in
+    let y : (m + doubled n q * 2) / 2 ≡ m / 2 + doubled n q = omega arith in
+    ap₂ _∷_ x (ap (lowBits n) y ∙ low-only n (m / 2) q)
+
+pub seven : (c : ℕ) → lowBits 7 (c % 128) ≡ lowBits 7 c
+unfolding doubled
+seven c =
+    let e : c % 128 + doubled 7 (c / 128) ≡ c = omega arith in
+    sym (low-only 7 (c % 128) (c / 128)) ∙ ap (lowBits 7) e
+
+pub parity-low : (v : ℕ) → withParity (v % 128) ≡ withParity v
+unfolding withParity
+parity-low v =
+    let e : v % 128 % 128 ≡ v % 128 = omega arith in ap₂ (λ (x : ℕ) (l : List ℕ). x + ones l % 2 * 128) e (seven v)
+
+-- tested at each value
+evenly : ℕ → Bool
+evenly v = even (withParity v)
+
+all-evenly : T (below evenly 128)
+unfolding evenly even withParity ones lowBits
+all-evenly = tt
+
+pub parity-even : (v : ℕ) → T (even (withParity v))
+unfolding evenly
+parity-even v =
+    subst-even (parity-low v) (at evenly 128 all-evenly (v % 128) (mod-lt v (zero-lt-suc 127)))
+  where
+    subst-even : {a b : ℕ} → a ≡ b → T (even a) → T (even b)
+    subst-even e t = rw e at t
+
+-- the parity bit is there where the seven others are odd
+like : ℕ → Bool
+like v = eqb (withParity v) (cond (even v) v (v + 128))
+
+all-like : T (below like 128)
+unfolding like withParity even ones lowBits
+all-like = tt
+
+pub parity-is : (v : ℕ) {t : Bool} → v < 128 → even v ≡ t → withParity v ≡ cond t v (v + 128)
+unfolding like
+parity-is v h e =
+    eqb→eq (withParity v) (cond (even v) v (v + 128)) (at like 128 all-like v h)
+    ∙ ap (λ (t : Bool). cond t v (v + 128)) e
+
+pub parity-lt : (v : ℕ) → withParity v < 256
+unfolding withParity
+parity-lt v = omega arith
+
+-- without parity it is the value again
+pub parity-off : (v : ℕ) → v < 128 → withParity v % 128 ≡ v
+unfolding withParity
+parity-off v h = omega arith
+
+-- an even byte is its seven low bits with parity
+whole : ℕ → Bool
+whole b = cond (even b) (eqb (withParity (b % 128)) b) true
+
+all-whole : T (below whole 256)
+unfolding whole withParity even ones lowBits
+all-whole = tt
+
+pub parity-back : (b : ℕ) → b < 256 → even b ≡ true → withParity (b % 128) ≡ b
+unfolding whole
+parity-back b h e =
+    eqb→eq (withParity (b % 128)) b
+    (rw e at (at whole 256 all-whole b h))
+
+-- ---- what one turn of a loop does
+
+-- one bit counted
+pub ones-turn : (c i : ℕ) → 0 < i → ones (lowBits i c) ≡ c % 2 + ones (lowBits (i - 1) (c / 2))
+unfolding ones lowBits
+ones-turn c zero h = absurd (omega (arith, h))
+ones-turn c (suc i) h = let e : i ≡ suc i - 1 = omega arith in ap (λ (m : ℕ). c % 2 + ones (lowBits m (c / 2))) e
+
+pub ones-done : (c i : ℕ) → i ≡ 0 → ones (lowBits i c) ≡ 0
+unfolding ones lowBits
+ones-done c i e = ap (λ (m : ℕ). ones (lowBits m c)) e
+
+-- one byte passed, of either parity
+pub odds-turn : (B : List ℕ) (i : ℕ) {t : Bool} → i < length B → even (getD B i 0) ≡ t
+    → odds (drop i B) ≡ cond t 0 1 + odds (drop (i + 1) B)
+unfolding odds
+odds-turn B i h e =
+    ap odds (drop-cons B i 0 h) ∙ ap (λ (n : ℕ). odds (getD B i 0 ∷ drop n B)) (sym (add-one i)) ∙ go (even (getD B i 0)) e
+  where
+    m : ℕ
+    m = odds (drop (i + 1) B)
+
+    go : (u : Bool) {t : Bool} → u ≡ t → cond u m (suc m) ≡ cond t 0 1 + m
+    go true e = rw (sym e) (omega arith)
+    go false e = rw (sym e) (omega arith)
+
+pub odds-done : (B : List ℕ) (i : ℕ) → length B ≤ i → odds (drop i B) ≡ 0
+unfolding odds
+odds-done B i h = ap odds (drop-of-length-le B {i = i} h)

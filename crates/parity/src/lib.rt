@@ -1,0 +1,43 @@
+// Parity (01: "with parity"; 001, section 5-1-2): whether a byte has an even number of ones, how many bytes have not, and a
+// value with parity. specs/Parity is the words; proofs/Parities has their laws: parity adds up like the bits do, a value with
+// parity is even, and without it is the value again.
+ghost use mathlib.Core.Path.{_≡_};
+ghost use Rattle.parity.specs.Parity.{even, odds, withParity};
+
+// Whether a byte has an even number of ones.
+pub fn is_even(byte: u8) -> bool
+    ensures { λ r. ⌜ r ≡ even byte ⌝ }
+{
+    let mut n: u8 = 0;
+    let mut c = byte;
+    let mut i: usize = 8;
+    while 0 < i {
+        n += c % 2;
+        c = c / 2;
+        i -= 1;
+    }
+    n % 2 == 0
+}
+
+// How many of some bytes have an odd number of ones.
+pub fn odd_bytes(bytes: &[u8]) -> usize
+    ensures { λ r. ⌜ r ≡ odds (now (bytes .entry)) ⌝ }
+{
+    let mut n: usize = 0;
+    let mut i: usize = 0;
+    while i < bytes.len() {
+        if !is_even(bytes[i]) {
+            n += 1;
+        }
+        i += 1;
+    }
+    n
+}
+
+// A value with parity; of a byte above 127 the seven low bits count.
+pub fn with_parity(value: u8) -> u8
+    ensures { λ r. ⌜ r ≡ withParity value ⌝ }
+{
+    let w = value % 128;
+    if is_even(w) { w } else { w + 128 }
+}

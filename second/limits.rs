@@ -1,0 +1,7 @@
+//! The limits of the trial script format.
+
+/// A line of more characters is no command.
+pub const LONGEST_LINE: usize = 9_000;
+
+/// The most values, bytes of a block, or bytes of room in a command on blocks.
+pub const MOST_BYTES: usize = 64;
