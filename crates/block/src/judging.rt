@@ -1,5 +1,4 @@
 // The reader.
-use crate::places;
 ghost use mathlib.Core.Path.{_≡_};
 ghost use Rattle.block.specs.Judging.{judged, left, handed, bitNamed, told};
 

@@ -7,7 +7,6 @@
 // long way round (no change, then each mendable bit in turn) and finds its bit the short way, by the remainder and the one
 // byte of odd parity; proofs/Verdicts is the one door by which any judge is shown to be right.
 pub mod judging;
-mod places;
 
 pub use judging::Verdict;
 pub use judging::judge;

@@ -9,7 +9,7 @@ use lib.Pow.{pow-pos}
 use lib.Bits.{bitXor, xor-lt, xor-block, xor-shr, xor-comm, xor-zero-r}
 use Rattle.laws.proofs.Computed.{apart}
 use Rattle.laws.proofs.Xor.{xor-again, xor-zero-eq, xor-four, xor-scale}
-use Rattle.division.specs.Division.{reduce, divide}
+use Rattle.division.specs.Division.{generator, reduce, divide}
 use Rattle.division.specs.Polynomials.{polynomial, times, GeneratorDivides, Digits, none, more}
 use Rattle.division.proofs.Steps.{small, large, reduce-lt, divide-lt}
 
@@ -34,7 +34,7 @@ times-zero : times 0 ≡ 0
 unfolding times
 times-zero = refl
 
-times-one : times 1 ≡ 137
+times-one : times 1 ≡ generator
 unfolding times
 times-one = refl
 
@@ -50,7 +50,7 @@ step q r b h k =
     ⊎-elim (λ s. (q * 2, e ∙ ap (bitXor (times (q * 2))) (sym (small m s))))
     (λ l. (
       bitXor (q * 2) 1,
-      e ∙ sym (xor-zero-r (bitXor (times (q * 2)) m)) ∙ xor-four (times (q * 2)) m 137 137
+      e ∙ sym (xor-zero-r (bitXor (times (q * 2)) m)) ∙ xor-four (times (q * 2)) m generator generator
           ∙ ap₂ bitXor (sym (times-xor (q * 2) 1 ∙ ap (bitXor (times (q * 2))) times-one)) (sym (large m l)),
     )) (apart m 128)
 

@@ -9,7 +9,7 @@ use lib.Bits.{bitXor, xor-lt, xor-block, xor-comm, xor-zero-r, xor-mod}
 use Rattle.laws.proofs.Computed.{apart}
 use Rattle.laws.proofs.Xor.{xor-assoc, xor-four, xor-half}
 use Rattle.laws.proofs.Sums.{Sum, none, more, sum-append}
-use Rattle.division.specs.Division.{lowBits, bits, reduce, divide}
+use Rattle.division.specs.Division.{lowBits, bits, generator, reduce, divide}
 use Rattle.division.specs.Polynomials.{Digits}
 use Rattle.division.specs.Polynomials
 use Rattle.division.proofs.Steps.{small, large, both-up, reduce-lt}
@@ -35,17 +35,17 @@ reduce-xor n m k k′ =
     ls : 128 ≤ n → m < 128 → reduce (bitXor n m) ≡ bitXor (reduce n) (reduce m)
     ls h h′ =
         large (bitXor n m) (one-up n m h k h′)
-        ∙ xor-assoc n m 137 ∙ ap (bitXor n) (xor-comm m 137) ∙ sym (xor-assoc n 137 m)
+        ∙ xor-assoc n m generator ∙ ap (bitXor n) (xor-comm m generator) ∙ sym (xor-assoc n generator m)
         ∙ sym (ap₂ bitXor (large n h) (small m h′))
 
     sl : n < 128 → 128 ≤ m → reduce (bitXor n m) ≡ bitXor (reduce n) (reduce m)
     sl h h′ =
-        large (bitXor n m) (subst⁻¹ (λ (x : ℕ). 128 ≤ x) (xor-comm n m) (one-up m n h′ k′ h)) ∙ xor-assoc n m 137
+        large (bitXor n m) (subst⁻¹ (λ (x : ℕ). 128 ≤ x) (xor-comm n m) (one-up m n h′ k′ h)) ∙ xor-assoc n m generator
         ∙ sym (ap₂ bitXor (small n h) (large m h′))
 
     ll : 128 ≤ n → 128 ≤ m → reduce (bitXor n m) ≡ bitXor (reduce n) (reduce m)
     ll h h′ =
-        small (bitXor n m) (both-up n m h k h′ k′) ∙ sym (xor-zero-r (bitXor n m)) ∙ xor-four n m 137 137
+        small (bitXor n m) (both-up n m h k h′ k′) ∙ sym (xor-zero-r (bitXor n m)) ∙ xor-four n m generator generator
         ∙ sym (ap₂ bitXor (large n h) (large m h′))
 
 -- ---- rows of bits

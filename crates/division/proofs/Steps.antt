@@ -13,7 +13,7 @@ use lib.Seq.{drop-cons}
 use lib.Bits.{bitXor, xor-lt, xor-block}
 use borrow.Author.Tests.{lt-ltb, le-ltb}
 use Rattle.laws.proofs.Computed.{apart}
-use Rattle.division.specs.Division.{lowBits, bits, reduce, divide, checkBits}
+use Rattle.division.specs.Division.{lowBits, bits, generator, reduce, divide, checkBits}
 use Rattle.division.specs.Polynomials.{Digits, none, more}
 use Rattle.division.proofs.Bytes.{bits-digits, zero-digits, append-digits}
 
@@ -21,11 +21,11 @@ use Rattle.division.proofs.Bytes.{bits-digits, zero-digits, append-digi
 
 pub small : (n : ℕ) → n < 128 → reduce n ≡ n
 unfolding reduce
-small n h = ap (λ (t : Bool). cond t n (bitXor n 137)) (lt-ltb n 128 h)
+small n h = ap (λ (t : Bool). cond t n (bitXor n generator)) (lt-ltb n 128 h)
 
-pub large : (n : ℕ) → 128 ≤ n → reduce n ≡ bitXor n 137
+pub large : (n : ℕ) → 128 ≤ n → reduce n ≡ bitXor n generator
 unfolding reduce
-large n h = ap (λ (t : Bool). cond t n (bitXor n 137)) (le-ltb n 128 h)
+large n h = ap (λ (t : Bool). cond t n (bitXor n generator)) (le-ltb n 128 h)
 
 -- power 7 goes where it stands in both
 pub both-up : (n m : ℕ) → 128 ≤ n → n < 256 → 128 ≤ m → m < 256 → bitXor n m < 128
@@ -40,7 +40,7 @@ both-up n m h k h′ k′ =
 pub reduce-lt : (n : ℕ) → n < 256 → reduce n < 128
 reduce-lt n k =
     ⊎-elim (λ h. subst⁻¹ (λ (x : ℕ). x < 128) (small n h) h)
-    (λ h. subst⁻¹ (λ (x : ℕ). x < 128) (large n h) (both-up n 137 h k (omega arith) (omega arith))) (apart n 128)
+    (λ h. subst⁻¹ (λ (x : ℕ). x < 128) (large n h) (both-up n generator h k (omega arith) (omega arith))) (apart n 128)
 
 -- ---- rows of bits
 

@@ -17,9 +17,13 @@ unfoldable pub bits : List ℕ → List ℕ
 bits [] = []
 bits (b ∷ bs) = lowBits 8 b ++ bits bs
 
--- 137 is x^7 + x^3 + 1: "G(x) = x^7 + x^3 + 1" (001, section 5-1-3), taken away where power 7 stands
+-- "G(x) = x^7 + x^3 + 1" (001, section 5-1-3)
+abbrev pub generator : ℕ
+generator = 128 + 8 + 1
+
+-- taken away where power 7 stands
 unfoldable pub reduce : ℕ → ℕ
-reduce n = cond (ltb n 128) n (bitXor n 137)
+reduce n = cond (ltb n 128) n (bitXor n generator)
 
 -- each bit in turn is brought down behind the remainder so far
 unfoldable pub divide : ℕ → List ℕ → ℕ

@@ -1,8 +1,9 @@
 -- `block::judging::mend` meets its contract: each answer is right, and so it is the judged one. Assumes nothing.
-use mathlib.Core.Path.{_≡_, refl, sym, ap, _∙_, subst⁻¹}
+use mathlib.Core.Path.{_≡_, refl, sym, ap, _∙_}
 use mathlib.Core.Logic.{⊎-elim}
 use mathlib.Core.List.{List}
-use Prim.Native.Nat.{ℕ, _<_}
+use Prim.Native.Nat.{ℕ, _%_}
+use native.Mathlib.Nat.{mod-eq-of-lt}
 use native.Mathlib.Omega.{arith}
 use lib.ListN.{length, getD, take}
 use lib.Seq.{length-take-le}
@@ -59,7 +60,9 @@ module _ (p : tie.After-place) where
 
   points : remainder (unit (p .place .result)) ≡ remainder place-was
   unfolding place-was
-  points = p .place .ensures .1 ∙ remainder-is (p .before .before .before)
+  points =
+      let a = p .before .before .before in
+      p .place .ensures .1 ∙ ap (λ (x : ℕ). x % 128) (remainder-is a) ∙ mod-eq-of-lt (remainder-lt (was a))
 
 returns : tie.Need-returns
 returns c = settled (c .before .before .args .block .now) WrongLength (c .if1 .taken) refl
@@ -108,9 +111,7 @@ returns-4 c =
     (not-one (was a) (long a) (not-clean (c .before)) (λ (o : odds (take 16 (was a)) ≡ 1). c .if5 .taken (odd-is a ∙ o))) refl
 
 place-requires : tie.Need-place-requires
-place-requires c κs =
-    let a = c .before .before in
-    subst⁻¹ (λ (x : ℕ). x < 128) (remainder-is a) (remainder-lt (was a))
+place-requires c κs = search needs
 
 same-length-3 : tie.Need-same-length-3
 same-length-3 c = search needs

@@ -1,5 +1,6 @@
-// The table from a remainder to the bit that it points to.
-ghost use Prim.Native.Nat.{_<_};
+// The table from a remainder to the bit that it points to: the one of the first 128 that alone leaves it. Its rule is proved
+// once, over the whole table (proofs/Pointed).
+ghost use Prim.Native.Nat.{_%_, _<_};
 ghost use mathlib.Core.Path.{_≡_};
 ghost use Rattle.validity.specs.Block.{remainder as remainderOf};
 ghost use Rattle.validity.specs.Units.{unit};
@@ -135,11 +136,10 @@ const PLACES: [u8; 128] = [
     27,
 ];
 
-// The bit that a remainder points to: the one of the first 128 that alone leaves it. Zero points to the parity bit of byte 16,
+// The bit that a remainder points to; of a byte above 127 the seven low bits count. Zero points to the parity bit of byte 16,
 // which is no code bit.
-pub(crate) fn place(r: u8) -> u8
-    requires { ⌜ r < 128 ⌝ }
-    ensures { λ k. ⌜ (k < 128) × (remainderOf (unit k) ≡ r) ⌝ }
+pub fn place(r: u8) -> u8
+    ensures { λ k. ⌜ (k < 128) × (remainderOf (unit k) ≡ r % 128) ⌝ }
 {
-    PLACES[r as usize]
+    PLACES[(r % 128) as usize]
 }
