@@ -19,29 +19,34 @@ use std::process::ExitCode;
 
 fn main() -> ExitCode {
     let mut answers = BufWriter::new(io::stdout().lock());
-    let ran = run_all(&mut answers);
-    // The answers given before a failure are still handed out.
-    let handed_out = answers
-        .flush()
-        .map_err(|error| format!("standard output: {error}"));
-    match ran.and(handed_out) {
-        Ok(()) => ExitCode::SUCCESS,
-        Err(message) => {
-            eprintln!("{message}");
-            ExitCode::FAILURE
-        }
+    let mut failures = run_all(&mut answers);
+    if let Err(error) = answers.flush() {
+        failures.push(format!("standard output: {error}"));
+    }
+    for failure in &failures {
+        eprintln!("{failure}");
+    }
+    if failures.is_empty() {
+        ExitCode::SUCCESS
+    } else {
+        ExitCode::FAILURE
     }
 }
 
-fn run_all(answers: &mut impl Write) -> Result<(), String> {
+/// A message for each script that could not be run; the scripts after it still are.
+fn run_all(answers: &mut impl Write) -> Vec<String> {
     let names: Vec<PathBuf> = env::args_os().skip(1).map(PathBuf::from).collect();
     if names.is_empty() {
-        return trial::run(io::stdin().lock(), answers)
-            .map_err(|error| format!("standard input: {error}"));
+        let ran = trial::run(io::stdin().lock(), answers);
+        return Vec::from_iter(ran.err().map(|error| format!("standard input: {error}")));
     }
-    names.iter().try_for_each(|name| {
-        run_file(name, answers).map_err(|error| format!("{}: {error}", name.display()))
-    })
+    names
+        .iter()
+        .filter_map(|name| {
+            let error = run_file(name, answers).err()?;
+            Some(format!("{}: {error}", name.display()))
+        })
+        .collect()
 }
 
 fn run_file(name: &Path, answers: &mut impl Write) -> io::Result<()> {

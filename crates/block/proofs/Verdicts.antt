@@ -1,6 +1,6 @@
--- The one door for every judge: the verdict that is right is the judged one. With it demand 3: what is handed on is the only valid
--- block near, and a repeat is asked exactly when there is none. Each law holds for any number of mendable bits up to 136.
--- Assumes nothing.
+-- The one door for every judge: the verdict that is right is the judged one. With it demand 3: what is handed on is
+-- the only valid block near, and a repeat is asked exactly when there is none. Each law holds for any number of
+-- mendable bits up to 136. Assumes nothing.
 use mathlib.Core.Path.{_≡_, refl, sym, ap, _∙_, subst, subst⁻¹}
 use mathlib.Core.Bool.{Bool, true, false, cond, _&&_, _||_, not, and-false}
 use mathlib.Core.List.{List}
@@ -44,7 +44,8 @@ found k (suc n) B = go (valid (flip k B)) refl (tryFrom (suc k) n B) (found (suc
         λ j h l v. ⊎-elim (λ (e : k ≡ j). ne (subst⁻¹ (λ (i : ℕ). Valid (flip i B)) e v))
         (λ (g : k < j). f j g (omega (arith, l)) v) (eq-or-lt-of-le h)
 
-    go : (t : Bool) → valid (flip k B) ≡ t → (w : Verdict) → Found (suc k) n B w → Found k (suc n) B (cond t (Mended k) w)
+    go : (t : Bool) → valid (flip k B) ≡ t → (w : Verdict) → Found (suc k) n B w
+        → Found k (suc n) B (cond t (Mended k) w)
     go true e w f = (omega arith, omega arith, holds e)
     go false e w f = later w (fails e) f
 
@@ -181,7 +182,8 @@ unfolding oneMends
 some-mends zero B t = absurd t
 some-mends (suc n) B t = go (valid (flip n B)) refl t (some-mends n B)
   where
-    go : (u : Bool) → valid (flip n B) ≡ u → T (u || oneMends n B) → (T (oneMends n B) → (k : ℕ) × (k < n) × Valid (flip k B))
+    go : (u : Bool) → valid (flip n B) ≡ u → T (u || oneMends n B)
+        → (T (oneMends n B) → (k : ℕ) × (k < n) × Valid (flip k B))
         → (k : ℕ) × (k < suc n) × Valid (flip k B)
     go true e s f = (n, omega arith, holds e)
     go false e s f = let m = f s in (m .0, omega (arith, m .1), m .2)
@@ -201,7 +203,8 @@ told-number B = by (verdict B) refl (is-right B)
     by (Mended k) e r =
         ap (λ (w : Verdict). told w .number) e
         ∙ sym (long (flipped-length k B (r .1)) (valid B) true refl
-        (is-true (oneMends mendable B) (mends-some mendable k B (r .0) (r .1))) ∙ ap (λ (t : Bool). cond t 3 0) (and-false (not (valid B))))
+        (is-true (oneMends mendable B) (mends-some mendable k B (r .0) (r .1)))
+        ∙ ap (λ (t : Bool). cond t 3 0) (and-false (not (valid B))))
     by Repeat e r =
         ap (λ (w : Verdict). told w .number) e
         ∙ sym (long (r .0) false false (not-valid (valid B) refl) (not-mends (oneMends mendable B) refl))

@@ -13,7 +13,8 @@ use Rattle.block.specs.Judging.{mendable}
 abbrev pub NoneNear : List ℕ → Type 0
 NoneNear B = (C : List ℕ) → Near mendable B C → Valid C → ⊥
 
--- B is valid; or bit k is mendable and makes it so; or it has seventeen bytes and no valid block is near; or it has not seventeen
+-- B is valid; or bit k is mendable and makes it so; or it has seventeen bytes and no valid block is near; or it has
+-- not seventeen
 abbrev pub Right : List ℕ → Verdict → Type 0
 Right B Clean = Valid B
 Right B (Mended k) = (k < mendable) × Valid (flip k B)

@@ -1,5 +1,5 @@
--- What the reader says, leaves and hands on, for any bytes (01, "Judging", "Numbers given"): the long way round, so that it is
--- believed at sight. Assumes nothing.
+-- What the reader says, leaves and hands on, for any bytes (01, "Judging", "Numbers given"): the long way round, so
+-- that it is believed at sight. Assumes nothing.
 use Prim.Native.Nat.{ℕ, zero, suc}
 use mathlib.Core.Bool.{Bool, false, cond, _||_, _&&_, not}
 use mathlib.Core.List.{List, [], _∷_}
@@ -20,8 +20,8 @@ unfoldable pub tryFrom : ℕ → ℕ → List ℕ → Verdict
 tryFrom k zero B = Repeat
 tryFrom k (suc n) B = cond (valid (flip k B)) (Mended k) (tryFrom (suc k) n B)
 
--- "Valid as it stands: clean. Otherwise, if a valid block differs from it in exactly one bit .. that bit is changed in place:
--- mended. Otherwise: repeat": no change is tried, then each mendable bit in turn
+-- "Valid as it stands: clean. Otherwise, if a valid block differs from it in exactly one bit .. that bit is changed
+-- in place: mended. Otherwise: repeat": no change is tried, then each mendable bit in turn
 unfoldable pub verdict : List ℕ → Verdict
 verdict B = cond (eqb (length B) 17) (cond (valid B) Clean (tryFrom 0 mendable B)) WrongLength
 
@@ -39,7 +39,8 @@ leftBy (Mended k) B = flip k B
 leftBy Repeat B = B
 leftBy WrongLength B = B
 
--- "After clean or mended, the caller gets back the first fifteen bytes ..; after a repeat or a wrong length, an empty part"
+-- "After clean or mended, the caller gets back the first fifteen bytes ..; after a repeat or a wrong length, an
+-- empty part"
 abbrev pub handedBy : Verdict → List ℕ → List ℕ
 handedBy Clean C = take 15 C
 handedBy (Mended k) C = take 15 C

@@ -10,8 +10,9 @@ pub enum Verdict {
     WrongLength,
 }
 
-// A block judged in place, of any length: the verdict, and the block as it is left. One changed bit turns the parity of its
-// byte and leaves its own remainder, so it can be mended where one byte alone is odd and the remainder points into it.
+// A block judged in place, of any length: the verdict, and the block as it is left. One changed bit turns the
+// parity of its byte and leaves its own remainder, so it can be mended where one byte alone is odd and the
+// remainder points into it.
 pub fn mend(block: &mut [u8]) -> Verdict
     ensures { λ r. ⌜ (told r ≡ judged (now (block .entry)))
         × (now (block .exit) ≡ left (now (block .entry))) ⌝ }
@@ -42,8 +43,8 @@ pub fn mend(block: &mut [u8]) -> Verdict
     Verdict::Mended(k)
 }
 
-// A block judged, of any length: the first fifteen bytes of the lent block itself, or an empty part. `said` gets the number,
-// `bit` the bit mended or 255 for none.
+// A block judged, of any length: the first fifteen bytes of the lent block itself, or an empty part. `said` gets
+// the number, `bit` the bit mended or 255 for none.
 pub fn judge<'a>(block: &'a mut [u8], said: &mut u8, bit: &mut u8) -> &'a mut [u8]
     ensures { λ r. ⌜ (now (said .exit) ≡ judged (now (block .entry)) .number)
         × (now (bit .exit) ≡ bitNamed (judged (now (block .entry))))

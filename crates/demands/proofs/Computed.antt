@@ -10,7 +10,8 @@ use Rattle.block.specs.Judging.{tryFrom, verdict, left}
 use Rattle.demands.specs.Cards.{EachHolds, cards, zeros, w1}
 
 pub bench : EachHolds cards
-unfolding lowBits bits reduce divide checkBits ones even allEven withParity codeBits remainder valid flip useful sealed blockOf tryFrom verdict left
+unfolding lowBits bits reduce divide checkBits ones even allEven withParity codeBits remainder valid
+    flip useful sealed blockOf tryFrom verdict left
 bench =
     (refl, (refl, ((refl, refl), ((refl, refl), ((refl, refl), ((refl, refl), ((refl, refl), ((refl, refl), tt))))))))
 

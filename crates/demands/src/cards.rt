@@ -10,8 +10,8 @@ pub fn the_bench_cards_hold()
     ensures { λ _. ⌜ EachHolds cards ⌝ }
 {}
 
-// There are valid blocks, and two that lie just four bits apart: no theorem of demand 3 speaks of nothing, and its four is the
-// best that can be said.
+// There are valid blocks, and two that lie just four bits apart: no theorem of demand 3 speaks of nothing, and its
+// four is the best that can be said.
 pub fn there_are_valid_blocks_four_bits_apart()
     ensures { λ _. ⌜ Valid w1 × Valid (3 ∷ zeros 10 ++ (68 ∷ zeros 5))
         × (distance w1 (3 ∷ zeros 10 ++ (68 ∷ zeros 5)) ≡ 4) ⌝ }

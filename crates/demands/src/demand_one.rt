@@ -1,6 +1,6 @@
-// Demand 1: any bytes are taken in a finite run; whatever is wrong has its number and leaves lent memory as the papers say.
-// That every call ends, stays within the memory lent to it and asks nothing of its caller is the checker's own verdict: every
-// function is proved total, and no public one has a `requires`.
+// Demand 1: any bytes are taken in a finite run; whatever is wrong has its number and leaves lent memory as the
+// papers say. That every call ends, stays within the memory lent to it and asks nothing of its caller is the
+// checker's own verdict: every function is proved total, and no public one has a `requires`.
 ghost use mathlib.Core.Path.{_≡_};
 ghost use mathlib.Core.List.{List, []};
 ghost use Prim.Native.Nat.{ℕ};
@@ -13,8 +13,8 @@ pub fn each_number_is_given_exactly_when()
     ensures { λ _. ⌜ ((c : Conditions) → GivenExactly c) ⌝ }
 {}
 
-// The judge's number comes of the paper's conditions: the block has not seventeen bytes, or no valid block is within one
-// mendable bit. (The maker's comes of them by definition.)
+// The judge's number comes of the paper's conditions: the block has not seventeen bytes, or no valid block is
+// within one mendable bit. (The maker's comes of them by definition.)
 pub fn the_judges_number_is_the_papers()
     ensures { λ _. ⌜ ((B : List ℕ) → judged B .number ≡ numberOf (judgeConditions B)) ⌝ }
 {}

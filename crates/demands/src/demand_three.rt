@@ -1,5 +1,6 @@
-// Demand 3: what is handed on is the only valid block within one changed code bit of what arrived; a repeat is asked exactly when
-// there is none. A valid block hit once comes back whole; hit at any two of its 136 bits it is refused.
+// Demand 3: what is handed on is the only valid block within one changed code bit of what arrived; a repeat is
+// asked exactly when there is none. A valid block hit once comes back whole; hit at any two of its 136 bits it is
+// refused.
 ghost use mathlib.Core.Path.{_≡_};
 ghost use mathlib.Core.List.{List};
 ghost use mathlib.Core.Logic.{_↔_};
@@ -11,8 +12,8 @@ ghost use Rattle.block.specs.declared.judging.Verdict.the-variants.{Clean, Mend
 ghost use Rattle.block.specs.Judging.{verdict, left, mendable};
 ghost use Rattle.block.specs.Claims.{NoneNear, OnlyNear};
 
-// What is handed on is valid, within one mendable bit of what arrived, and the only such block; a repeat is asked exactly when
-// there is none.
+// What is handed on is valid, within one mendable bit of what arrived, and the only such block; a repeat is asked
+// exactly when there is none.
 pub fn handed_on_is_the_only_valid_block_near()
     ensures only { λ _. ⌜ ((B : List ℕ) → length B ≡ 17 → (verdict B ≡ Repeat → ⊥) → OnlyNear B (left B)) ⌝ }
     ensures asked { λ _. ⌜ ((B : List ℕ) → length B ≡ 17 → verdict B ≡ Repeat ↔ NoneNear B) ⌝ }
@@ -24,7 +25,8 @@ pub fn hit_once_comes_back_whole()
         → (verdict (flip k W) ≡ Mended k) × (left (flip k W) ≡ W)) ⌝ }
 {}
 
-// A valid block hit at any two different bits of all 136 is refused and left as it came; hit at three it is never clean.
+// A valid block hit at any two different bits of all 136 is refused and left as it came; hit at three it is never
+// clean.
 pub fn hit_twice_is_refused()
     ensures twice { λ _. ⌜ ((W : List ℕ) (i j : ℕ) → Valid W → i < 136 → j < 136 → (i ≡ j → ⊥)
         → (verdict (flip i (flip j W)) ≡ Repeat) × (left (flip i (flip j W)) ≡ flip i (flip j W))) ⌝ }

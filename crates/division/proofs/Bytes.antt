@@ -1,4 +1,5 @@
--- The bits of numbers and of bytes: each is 0 or 1, and rows of bytes in a row are rows of bits in a row. Assumes nothing.
+-- The bits of numbers and of bytes: each is 0 or 1, and rows of bytes in a row are rows of bits in a row. Assumes
+-- nothing.
 use mathlib.Core.Path.{_≡_, refl, sym, ap, ap₂, _∙_}
 use mathlib.Core.List.{List, [], _∷_, _++_, append-assoc, reverse, reverseAux}
 use Prim.Native.Nat.{ℕ, zero, suc, _+_, _*_, _/_, _%_, _<_}

@@ -1,4 +1,5 @@
--- The remainder is that of polynomials: it is zero exactly where the bits spell a multiple of the generator. Assumes nothing.
+-- The remainder is that of polynomials: it is zero exactly where the bits spell a multiple of the generator.
+-- Assumes nothing.
 use mathlib.Core.Path.{_≡_, refl, sym, ap, ap₂, _∙_, subst, subst⁻¹}
 use mathlib.Core.List.{List, [], _∷_}
 use mathlib.Core.Logic.{⊎-elim, _↔_}

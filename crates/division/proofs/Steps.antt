@@ -1,5 +1,5 @@
--- One step of the division, and a row of steps: what they leave is below 128, and one row after another is both in a row.
--- Assumes nothing.
+-- One step of the division, and a row of steps: what they leave is below 128, and one row after another is both in
+-- a row. Assumes nothing.
 use mathlib.Core.Path.{_≡_, refl, sym, ap, ap₂, _∙_, subst⁻¹}
 use mathlib.Core.Bool.{Bool, cond}
 use mathlib.Core.List.{List, [], _∷_, _++_}

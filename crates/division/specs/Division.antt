@@ -1,5 +1,5 @@
--- Long division of a row of bits by the generator x^7 + x^3 + 1. A bit is the number 0 or 1, and a remainder is a number below
--- 128 whose bit of weight 2^i is the coefficient of power i. Assumes nothing.
+-- Long division of a row of bits by the generator x^7 + x^3 + 1. A bit is the number 0 or 1, and a remainder is a
+-- number below 128 whose bit of weight 2^i is the coefficient of power i. Assumes nothing.
 use Prim.Native.Nat.{ℕ, zero, suc, _+_, _*_, _/_, _%_}
 use mathlib.Core.Bool.{cond}
 use mathlib.Core.List.{List, [], _∷_, _++_}
@@ -30,6 +30,7 @@ unfoldable pub divide : ℕ → List ℕ → ℕ
 divide r [] = r
 divide r (b ∷ bs) = divide (reduce (r * 2 + b)) bs
 
--- "ce polynôme est multiplié par x^7 .. est divisé par le polynôme générateur": what the bytes and seven zeros behind them leave
+-- "ce polynôme est multiplié par x^7 .. est divisé par le polynôme générateur": what the bytes and seven zeros
+-- behind them leave
 unfoldable pub checkBits : List ℕ → ℕ
 checkBits bs = divide 0 (bits bs ++ replicate 7 0)

@@ -1,5 +1,5 @@
--- Polynomials over bits, as numbers: the bit of weight 2^i is the coefficient of power i. They say what it means that the
--- generator divides, with no division in it. Assumes nothing.
+-- Polynomials over bits, as numbers: the bit of weight 2^i is the coefficient of power i. They say what it means
+-- that the generator divides, with no division in it. Assumes nothing.
 use Prim.Native.Nat.{ℕ, _+_, _*_, _<_}
 use mathlib.Core.Path.{_≡_}
 use mathlib.Core.List.{List, [], _∷_}

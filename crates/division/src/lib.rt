@@ -1,9 +1,9 @@
 // Division by the generator x^7 + x^3 + 1, over bits (01, "The block"; 001, section 5-1-3).
 //
-// specs/Division says what long division of a row of bits leaves, in the way it is done on paper. specs/Polynomials says
-// what it means for the generator to divide, with no division in it; proofs/Divides ties the two together. The code
-// brings the bits down one by one: `check_bits` gives the seven check bits of some bytes, which is all that the maker
-// and the reader of blocks ask of this crate.
+// specs/Division says what long division of a row of bits leaves, in the way it is done on paper. specs/Polynomials
+// says what it means for the generator to divide, with no division in it; proofs/Divides ties the two together. The
+// code brings the bits down one by one: `check_bits` gives the seven check bits of some bytes, which is all that
+// the maker and the reader of blocks ask of this crate.
 ghost use mathlib.Core.Path.{_≡_};
 ghost use Prim.Native.Nat.{_<_};
 ghost use Rattle.division.specs.Division.{lowBits, reduce as reduced, divide, checkBits};

@@ -1,5 +1,5 @@
--- A test computed at every number below a bound gives its fact at each of them: so a table's rule is proved once, over the
--- whole table. With it stand the small laws of tests. Assumes nothing.
+-- A test computed at every number below a bound gives its fact at each of them: so a table's rule is proved once,
+-- over the whole table. With it stand the small laws of tests. Assumes nothing.
 use mathlib.Core.Path.{_≡_, refl, subst, subst⁻¹}
 use mathlib.Core.Bool.{Bool, true, false, _&&_}
 use mathlib.Core.Logic.{_⊎_, inl, inr, ⊎-elim}

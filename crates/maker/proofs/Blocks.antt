@@ -1,4 +1,5 @@
--- What the maker writes is valid, carries the values, and is what any valid block of bytes with those values is. Assumes nothing.
+-- What the maker writes is valid, carries the values, and is what any valid block of bytes with those values is.
+-- Assumes nothing.
 use mathlib.Core.Path.{_≡_, refl, sym, ap, ap₂, _∙_, subst, subst⁻¹}
 use mathlib.Core.Bool.{true, _&&_}
 use mathlib.Core.List.{List, [], _∷_, _++_, map, append-assoc}
@@ -106,7 +107,8 @@ module _ (vs : List ℕ) (h : length vs ≤ 15) where
   made-even =
       subst⁻¹ (λ (l : List ℕ). T (allEven l))
       (ap (take 16) made-is ∙ take-at (useful vs ++ (check ∷ [])) (0 ∷ []) 16 sixteen)
-      (even-append (useful vs) (check ∷ []) (useful-even vs) (both (even check) true (parity-even (checkBits (useful vs))) tt))
+      (even-append (useful vs) (check ∷ []) (useful-even vs)
+      (both (even check) true (parity-even (checkBits (useful vs))) tt))
 
   pub made-valid : Valid (blockOf vs)
   made-valid = is-valid (blockOf vs) made-length made-even made-remainder made-last
@@ -124,7 +126,8 @@ off-zeros : (n : ℕ) → map (λ (b : ℕ). b % 128) (replicate n 0) ≡ replic
 off-zeros zero = refl
 off-zeros (suc n) = ap (λ (l : List ℕ). 0 ∷ l) (off-zeros n)
 
-pub values-back : (vs : List ℕ) → length vs ≤ 15 → Values vs → valuesOf (blockOf vs) ≡ vs ++ replicate (15 - length vs) 0
+pub values-back : (vs : List ℕ) → length vs ≤ 15 → Values vs
+    → valuesOf (blockOf vs) ≡ vs ++ replicate (15 - length vs) 0
 unfolding useful
 values-back vs h f =
     ap (map (λ (b : ℕ). b % 128)) (made-useful vs h) ∙ off-values vs (replicate (15 - length vs) 0) f
@@ -170,7 +173,8 @@ module _ (B : List ℕ) (b : Bytes B) (v : Valid B) where
 
   check-is : withParity (checkBits (take 15 B)) ≡ getD B 15 0
   check-is =
-      ap withParity (xor-zero-eq (checkBits (take 15 B)) (getD B 15 0 % 128) (sym (remainder-by-check B) ∙ valid-remainder B v))
+      ap withParity
+      (xor-zero-eq (checkBits (take 15 B)) (getD B 15 0 % 128) (sym (remainder-by-check B) ∙ valid-remainder B v))
       ∙ parity-back (getD B 15 0) (b 15 (omega (arith, l))) (is-true (even (getD B 15 0)) (even-in 15 (omega arith)))
 
   useful-is : useful (valuesOf B) ≡ take 15 B

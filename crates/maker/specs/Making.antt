@@ -1,4 +1,5 @@
--- What the maker tells and leaves, for any values and any output (01, "The block", "Numbers given"). Assumes nothing.
+-- What the maker tells and leaves, for any values and any output (01, "The block", "Numbers given"). Assumes
+-- nothing.
 use Prim.Native.Nat.{ℕ, suc, _-_, _%_, _<_}
 use mathlib.Core.Bool.{Bool, false, cond, _||_}
 use mathlib.Core.List.{List, [], _∷_, _++_, map}
@@ -18,8 +19,8 @@ Values vs = (i : ℕ) → i < length vs → getD vs i 0 < 128
 unfoldable pub useful : List ℕ → List ℕ
 useful vs = map withParity vs ++ replicate (15 - length vs) 0
 
--- "remainder and validation": byte 16 is the check bits with parity ("aux bits 0 à 6 les coefficients de rang 0 à 6 .., le bit 7
--- étant le bit de parité": 001, section 5-1-3), and byte 17 is zero
+-- "remainder and validation": byte 16 is the check bits with parity ("aux bits 0 à 6 les coefficients de rang 0 à 6
+-- .., le bit 7 étant le bit de parité": 001, section 5-1-3), and byte 17 is zero
 unfoldable pub sealed : List ℕ → List ℕ
 sealed u = u ++ (withParity (checkBits u) ∷ 0 ∷ [])
 

@@ -1,8 +1,8 @@
 // The maker of blocks (01, "The block", "Numbers given"; 001, section 5-1-3).
 //
-// `make` writes the block of 1 to 15 values into the first seventeen bytes of a lent output. specs/Making says what it tells and
-// leaves, for any values and any output. proofs/Blocks shows that what it writes is valid and carries the values, and that
-// every valid block of bytes is what it writes for that block's values.
+// `make` writes the block of 1 to 15 values into the first seventeen bytes of a lent output. specs/Making says what
+// it tells and leaves, for any values and any output. proofs/Blocks shows that what it writes is valid and carries
+// the values, and that every valid block of bytes is what it writes for that block's values.
 ghost use Prim.Native.Nat.{_≤_};
 ghost use mathlib.Core.Path.{_≡_};
 ghost use mathlib.Core.List.{_++_};
@@ -66,7 +66,8 @@ fn first_large(values: &[u8]) -> usize
     n
 }
 
-// The block of 1 to 15 values of 0 to 127, in the first seventeen bytes of the output and no others; or why there is none.
+// The block of 1 to 15 values of 0 to 127, in the first seventeen bytes of the output and no others; or why there
+// is none.
 pub fn make(values: &[u8], out: &mut [u8]) -> Made
     ensures { λ r. ⌜ (told r ≡ makeTold (now (values .entry)) (now (out .entry)))
         × (now (out .exit) ≡ makeLeft (now (values .entry)) (now (out .entry))) ⌝ }

@@ -8,7 +8,8 @@ by-cases : (w b l r a : Bool)
 by-cases true b l r a = record { one = refl; five = refl; two = refl; four = refl; three = refl; zero = refl }
 by-cases false true l r a = record { one = refl; five = refl; two = refl; four = refl; three = refl; zero = refl }
 by-cases false false true r a = record { one = refl; five = refl; two = refl; four = refl; three = refl; zero = refl }
-by-cases false false false true a = record { one = refl; five = refl; two = refl; four = refl; three = refl; zero = refl }
+by-cases false false false true a =
+    record { one = refl; five = refl; two = refl; four = refl; three = refl; zero = refl }
 by-cases false false false false true =
     record { one = refl; five = refl; two = refl; four = refl; three = refl; zero = refl }
 by-cases false false false false false =

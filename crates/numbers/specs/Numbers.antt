@@ -35,8 +35,8 @@ pub record GivenExactly (c : Conditions) : Type 0 where
       eqb (numberOf c) 0
       ≡ (not (c .wrongLength) && not (c .brokenState) && not (c .tooLarge) && not (c .noRoom) && not (c .repeat))
 
--- what an answer tells: its number, and what it names besides (the place of a value too large, the bit mended, or nothing).
--- An answer that is an enum is told through a definition that gives this for each of its cases
+-- what an answer tells: its number, and what it names besides (the place of a value too large, the bit mended, or
+-- nothing). An answer that is an enum is told through a definition that gives this for each of its cases
 pub record Told : Type 0 where
   pub number : ℕ
   pub named : List ℕ

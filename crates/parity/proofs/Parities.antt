@@ -1,4 +1,5 @@
--- Laws of parity: it adds up like the bits do, a value with parity is even, and only its seven low bits count. Assumes nothing.
+-- Laws of parity: it adds up like the bits do, a value with parity is even, and only its seven low bits count.
+-- Assumes nothing.
 use mathlib.Core.Path.{_≡_, refl, sym, ap, ap₂, _∙_}
 use mathlib.Core.Bool.{Bool, true, false, cond}
 use mathlib.Core.List.{List, [], _∷_, _++_}
@@ -167,7 +168,8 @@ pub odds-turn : (B : List ℕ) (i : ℕ) {t : Bool} → i < length B → even (g
     → odds (drop i B) ≡ cond t 0 1 + odds (drop (i + 1) B)
 unfolding odds
 odds-turn B i h e =
-    ap odds (drop-cons B i 0 h) ∙ ap (λ (n : ℕ). odds (getD B i 0 ∷ drop n B)) (sym (add-one i)) ∙ go (even (getD B i 0)) e
+    ap odds (drop-cons B i 0 h) ∙ ap (λ (n : ℕ). odds (getD B i 0 ∷ drop n B)) (sym (add-one i))
+    ∙ go (even (getD B i 0)) e
   where
     m : ℕ
     m = odds (drop (i + 1) B)

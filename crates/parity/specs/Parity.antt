@@ -24,7 +24,7 @@ unfoldable pub odds : List ℕ → ℕ
 odds [] = 0
 odds (b ∷ bs) = cond (even b) (odds bs) (suc (odds bs))
 
--- "'With parity' means that weight 128 is set so that the byte has an even number of ones" (01). Only the seven low bits of
--- the value count, so that it is said of any value
+-- "'With parity' means that weight 128 is set so that the byte has an even number of ones" (01). Only the seven low
+-- bits of the value count, so that it is said of any value
 unfoldable pub withParity : ℕ → ℕ
 withParity v = v % 128 + ones (lowBits 7 v) % 2 * 128

@@ -1,6 +1,6 @@
-// Parity (01: "with parity"; 001, section 5-1-2): whether a byte has an even number of ones, how many bytes have not, and a
-// value with parity. specs/Parity is the words; proofs/Parities has their laws: parity adds up like the bits do, a value with
-// parity is even, and without it is the value again.
+// Parity (01: "with parity"; 001, section 5-1-2): whether a byte has an even number of ones, how many bytes have
+// not, and a value with parity. specs/Parity is the words; proofs/Parities has their laws: parity adds up like the
+// bits do, a value with parity is even, and without it is the value again.
 ghost use mathlib.Core.Path.{_≡_};
 ghost use Rattle.parity.specs.Parity.{even, odds, withParity};
 

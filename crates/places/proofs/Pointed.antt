@@ -1,4 +1,5 @@
--- The table from a remainder to the bit that it points to, and its rule, computed once over the whole table. Assumes nothing.
+-- The table from a remainder to the bit that it points to, and its rule, computed once over the whole table.
+-- Assumes nothing.
 use mathlib.Core.Path.{_≡_}
 use mathlib.Core.Bool.{Bool, _&&_}
 use mathlib.Core.List.{List, [], _∷_}

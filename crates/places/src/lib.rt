@@ -1,5 +1,5 @@
-// The table from a remainder to the bit that it points to: the one of the first 128 that alone leaves it. Its rule is proved
-// once, over the whole table (proofs/Pointed).
+// The table from a remainder to the bit that it points to: the one of the first 128 that alone leaves it. Its rule
+// is proved once, over the whole table (proofs/Pointed).
 ghost use Prim.Native.Nat.{_%_, _<_};
 ghost use mathlib.Core.Path.{_≡_};
 ghost use Rattle.validity.specs.Block.{remainder as remainderOf};
@@ -136,8 +136,8 @@ const PLACES: [u8; 128] = [
     27,
 ];
 
-// The bit that a remainder points to; of a byte above 127 the seven low bits count. Zero points to the parity bit of byte 16,
-// which is no code bit.
+// The bit that a remainder points to; of a byte above 127 the seven low bits count. Zero points to the parity bit
+// of byte 16, which is no code bit.
 pub fn place(r: u8) -> u8
     ensures { λ k. ⌜ (k < 128) × (remainderOf (unit k) ≡ r % 128) ⌝ }
 {

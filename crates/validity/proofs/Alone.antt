@@ -1,5 +1,5 @@
--- A valid block is alone: no other lies within three changed bits of it, of all 136. So at most one lies within one changed bit
--- of any block. Assumes nothing.
+-- A valid block is alone: no other lies within three changed bits of it, of all 136. So at most one lies within one
+-- changed bit of any block. Assumes nothing.
 use mathlib.Core.Path.{_≡_, refl, sym, ap, ap₂, _∙_}
 use mathlib.Core.List.{List, [], _∷_, _++_}
 use Prim.Native.Nat.{ℕ, _+_, _*_, _%_, _<_}
@@ -76,12 +76,16 @@ hit-twice i j B h k ne v w =
     ∙ ap (λ (x : ℕ). bitXor x (mark (unit j))) (valid-mark B v)))
 
 -- nor at any three
-pub hit-thrice : (h i j : ℕ) (B : List ℕ) → h < 136 → i < 136 → j < 136 → Valid B → Valid (flip h (flip i (flip j B))) → ⊥
+pub hit-thrice : (h i j : ℕ) (B : List ℕ) → h < 136 → i < 136 → j < 136 → Valid B
+    → Valid (flip h (flip i (flip j B))) → ⊥
 hit-thrice h i j B lh li lj v w =
     let e : length B ≡ 17 = valid-length B v in
     let e₁ : length (flip j B) ≡ 17 = flip-length j B ∙ e in
     let e₂ : length (flip i (flip j B)) ≡ 17 = flip-length i (flip j B) ∙ e₁ in
-    omega (arith, flip-ones h (flip i (flip j B)) lh e₂, flip-ones i (flip j B) li e₁, flip-ones j B lj e, valid-ones B v, valid-ones (flip h (flip i (flip j B))) w)
+    let o₁ = flip-ones j B lj e in
+    let o₂ = flip-ones i (flip j B) li e₁ in
+    let o₃ = flip-ones h (flip i (flip j B)) lh e₂ in
+    omega (arith, valid-ones B v, valid-ones (flip h (flip i (flip j B))) w)
 
 -- two valid blocks within one changed bit of the same block
 pub one-place : (i j : ℕ) (B : List ℕ) → i < 136 → j < 136 → Valid (flip i B) → Valid (flip j B) → i ≡ j

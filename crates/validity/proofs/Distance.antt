@@ -86,7 +86,8 @@ bits-one (b ∷ B) [] l p q e = absurd (omega (arith, l))
 bits-one (b ∷ B) (c ∷ C) l p q e =
     ap₂ {C = List ℕ} (λ (a : ℕ) (r : List ℕ). a ∷ r)
     (sym (byte-back b (p 0 (zero-lt-suc (length B))))
-    ∙ ap number (sym (take-at (lowBits 8 b) (bits B) 8 (eight b)) ∙ ap (take 8) e ∙ take-at (lowBits 8 c) (bits C) 8 (eight c))
+    ∙ ap number
+    (sym (take-at (lowBits 8 b) (bits B) 8 (eight b)) ∙ ap (take 8) e ∙ take-at (lowBits 8 c) (bits C) 8 (eight c))
     ∙ byte-back c (q 0 (zero-lt-suc (length C))))
     (bits-one B C (omega (arith, l)) (λ i h. p (suc i) (suc-le-suc h)) (λ i h. q (suc i) (suc-le-suc h))
     (sym (drop-at (lowBits 8 b) (bits B) 8 (eight b)) ∙ ap (drop 8) e ∙ drop-at (lowBits 8 c) (bits C) 8 (eight c)))

@@ -1,4 +1,5 @@
--- Changing bit k changes the bit in place k of block order and no other; twice changed is as before. Assumes nothing.
+-- Changing bit k changes the bit in place k of block order and no other; twice changed is as before. Assumes
+-- nothing.
 use mathlib.Core.Path.{_≡_, refl, sym, ap, ap₂, _∙_, subst, subst⁻¹}
 use mathlib.Core.Bool.{Bool, true, false, _&&_}
 use mathlib.Core.List.{List, [], _∷_}
@@ -28,8 +29,9 @@ flip-length k B = length-set B (k / 8) (bitXor (getD B (k / 8) 0) (2 ^ (k % 8)))
 pub flip-sum : (k : ℕ) (B : List ℕ) → length B ≡ 17 → Sum B (unit k) (flip k B)
 unfolding flip
 flip-sum k B e =
-    subst (λ (n : ℕ). Sum B (set (replicate n 0) (k / 8) (2 ^ (k % 8))) (set B (k / 8) (bitXor (getD B (k / 8) 0) (2 ^ (k % 8)))))
-    e (sum-set B (k / 8) (2 ^ (k % 8)))
+    let w : ℕ = 2 ^ (k % 8) in
+    subst (λ (n : ℕ). Sum B (set (replicate n 0) (k / 8) w) (set B (k / 8) (bitXor (getD B (k / 8) 0) w))) e
+    (sum-set B (k / 8) w)
 
 pub flip-flip : (k : ℕ) (B : List ℕ) → k < 136 → length B ≡ 17 → flip k (flip k B) ≡ B
 unfolding flip

@@ -1,5 +1,5 @@
--- What each bit alone does to the remainder and to the last byte, computed once for all 136 bits: no two do the same, and each
--- changes the number of ones by one. Assumes nothing.
+-- What each bit alone does to the remainder and to the last byte, computed once for all 136 bits: no two do the
+-- same, and each changes the number of ones by one. Assumes nothing.
 use mathlib.Core.Path.{_≡_, sym, ap, ap₂, _∙_}
 use mathlib.Core.Bool.{Bool, cond}
 use mathlib.Core.List.{List, [], _∷_}

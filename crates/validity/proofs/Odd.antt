@@ -1,5 +1,5 @@
--- A bit mends a block exactly where the last byte is zero, one byte alone has odd parity, the bit lies in it, and the remainder
--- is that of the bit. Assumes nothing.
+-- A bit mends a block exactly where the last byte is zero, one byte alone has odd parity, the bit lies in it, and
+-- the remainder is that of the bit. Assumes nothing.
 use mathlib.Core.Path.{_≡_, refl, sym, ap, ap₂, _∙_, subst⁻¹}
 use mathlib.Core.Bool.{Bool, true, false, cond, _&&_, not}
 use mathlib.Core.List.{List, [], _∷_}
@@ -132,6 +132,10 @@ module _ (k : ℕ) (B : List ℕ) (h : k < 128) (e : length B ≡ 17) where
       none : odds (take 16 (flip k B)) ≡ 0
       none = none-odd (take 16 (flip k B)) (valid-even (flip k B) v)
 
+      none-left : remainder (unit k) ≡ remainder B
+      none-left =
+          sym (xor-zero-eq (remainder B) (remainder (unit k)) (sym remainder-flip ∙ valid-remainder (flip k B) v))
+
       go : (t : Bool) → even (getD B (k / 8) 0) ≡ t → odds (take 16 (flip k B)) + cond t 0 2 ≡ odds (take 16 B) + 1
           → Mends k B
       go true p q = absurd (omega (arith, none, q))
@@ -140,7 +144,7 @@ module _ (k : ℕ) (B : List ℕ) (h : k < 128) (e : length B ≡ 17) where
             validation = sym last-kept ∙ valid-last (flip k B) v;
             alone = omega (arith, none, q);
             inside = p;
-            pointed = sym (xor-zero-eq (remainder B) (remainder (unit k)) (sym remainder-flip ∙ valid-remainder (flip k B) v));
+            pointed = none-left;
           }
 
   pub mends-where : Mends k B → Valid (flip k B)

@@ -1,5 +1,5 @@
--- The code bits of a block: which power each stands for, that their remainder is linear, and that it is zero exactly where the
--- generator divides. Assumes nothing.
+-- The code bits of a block: which power each stands for, that their remainder is linear, and that it is zero
+-- exactly where the generator divides. Assumes nothing.
 use mathlib.Core.Path.{_≡_, refl, sym, ap, ap₂, _∙_, subst⁻¹}
 use mathlib.Core.Bool.{Bool, cond}
 use mathlib.Core.List.{List, [], _∷_, _++_, reverse}
@@ -72,16 +72,19 @@ unfolding stands-for
 power-of-check i h =
     let e : 120 + i - 120 ≡ i = omega arith in
     spells (120 + i) (omega (arith, h))
-    ∙ ap (λ (t : Bool). 2 ^ cond t (126 - (120 + i)) (120 + i - 120)) (le-ltb (120 + i) 120 (omega arith)) ∙ ap (λ (n : ℕ). 2 ^ n) e
+    ∙ ap (λ (t : Bool). 2 ^ cond t (126 - (120 + i)) (120 + i - 120)) (le-ltb (120 + i) 120 (omega arith))
+    ∙ ap (λ (n : ℕ). 2 ^ n) e
 
 -- ---- the remainder of a sum
 
 code-sum : {A B C : List ℕ} → Sum A B C → Sum (codeBits A) (codeBits B) (codeBits C)
 unfolding codeBits
 code-sum {A} {B} {C} t =
+    let a : ℕ = getD A 15 0 in
+    let b : ℕ = getD B 15 0 in
     sum-append (bits-sum (sum-take 15 t))
-    (subst⁻¹ (λ (c : ℕ). Sum (reverse (lowBits 7 (getD A 15 0))) (reverse (lowBits 7 (getD B 15 0))) (reverse (lowBits 7 c)))
-    (sum-at 15 t) (sum-reverse (low-sum 7 (getD A 15 0) (getD B 15 0))))
+    (subst⁻¹ (λ (c : ℕ). Sum (reverse (lowBits 7 a)) (reverse (lowBits 7 b)) (reverse (lowBits 7 c))) (sum-at 15 t)
+    (sum-reverse (low-sum 7 a b)))
 
 pub remainder-sum : {A B C : List ℕ} → Sum A B C → remainder C ≡ bitXor (remainder A) (remainder B)
 unfolding remainder

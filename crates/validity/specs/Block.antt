@@ -1,5 +1,5 @@
--- The block of seventeen bytes and its validity (01, "The block"; 001, section 5-1). A block is a list of bytes: byte 1 of the
--- papers stands at place 0. Assumes nothing.
+-- The block of seventeen bytes and its validity (01, "The block"; 001, section 5-1). A block is a list of bytes:
+-- byte 1 of the papers stands at place 0. Assumes nothing.
 use Prim.Native.Nat.{ℕ, _<_}
 use mathlib.Core.Bool.{Bool, _&&_}
 use mathlib.Core.List.{List, _++_, reverse}
@@ -8,9 +8,9 @@ use lib.ListN.{length, getD, take}
 use Rattle.division.specs.Division.{lowBits, bits, divide}
 use Rattle.parity.specs.Parity.{allEven}
 
--- "all 120 bits of bytes 1 to 15 and the seven low bits of byte 16, 127 together": the coefficients of powers 126 down to 0.
--- In byte 16 weight 64 comes first: "aux bits 0 à 6 les coefficients de rang 0 à 6" (001, section 5-1-3). This definition
--- alone holds the order of the code bits
+-- "all 120 bits of bytes 1 to 15 and the seven low bits of byte 16, 127 together": the coefficients of powers 126
+-- down to 0. In byte 16 weight 64 comes first: "aux bits 0 à 6 les coefficients de rang 0 à 6" (001, section
+-- 5-1-3). This definition alone holds the order of the code bits
 unfoldable pub codeBits : List ℕ → List ℕ
 codeBits B = bits (take 15 B) ++ reverse (lowBits 7 (getD B 15 0))
 

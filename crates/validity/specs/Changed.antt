@@ -1,4 +1,5 @@
--- Changed bits. A bit's place counts from 0 in block order: byte 1 first, and weight 1 first in each byte. Assumes nothing.
+-- Changed bits. A bit's place counts from 0 in block order: byte 1 first, and weight 1 first in each byte. Assumes
+-- nothing.
 use Prim.Native.Nat.{ℕ, suc, _/_, _%_, _^_, _<_}
 use mathlib.Core.Bool.{cond}
 use mathlib.Core.List.{List, [], _∷_}

@@ -1,4 +1,5 @@
--- `maker::fill` meets its contract: the first i bytes are useful ones, and the others as they were. Assumes nothing.
+-- `maker::fill` meets its contract: the first i bytes are useful ones, and the others as they were. Assumes
+-- nothing.
 use mathlib.Core.Path.{_≡_, refl, ap, ap₂, _∙_}
 use mathlib.Core.List.{List, _++_}
 use Prim.Native.Nat.{ℕ, _-_, _≤_}

@@ -42,7 +42,8 @@ returns-3 c =
     let o : List ℕ = s .args .out .now in
     let p = f .first-large .ensures in
     let e : makeNumber v o ≡ 2
-    = large v o (f .before .before .if1 .left) (f .before .if2 .left) (subst (λ (x : ℕ). x < length v) p (c .if3 .taken)) in
+    = large v o (f .before .before .if1 .left) (f .before .if2 .left)
+    (subst (λ (x : ℕ). x < length v) p (c .if3 .taken)) in
     (names-place v o (f .first-large .result) p e, refused v o (no-zero 2 e (omega arith)))
 
 -- no value is too large
@@ -83,7 +84,8 @@ returns-5 c =
     let e : makeNumber v o ≡ 0
     = room v o (f .before .before .if1 .left) (f .before .if2 .left) (no-large (g .before)) (g .if4 .left) in (
       names-none v o 0 e (omega arith),
-      z .seal .ensures ∙ both-written v o (w .fill .last .1 .0) (f .before .if2 .left) (w .fill .ensures) ∙ written v o e,
+      z .seal .ensures ∙ both-written v o (w .fill .last .1 .0) (f .before .if2 .left) (w .fill .ensures)
+          ∙ written v o e,
     )
 
 pub make-spec : {M : Type 1} → statement M

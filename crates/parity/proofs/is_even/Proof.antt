@@ -35,7 +35,8 @@ returns : tie.Need-returns Inv-loop μ-loop
 unfolding even
 returns c =
     let l = c .before .loop in
-    let e : l .n ≡ ones (lowBits 8 (c .before .before .args .byte)) = omega (arith, ones-done (l .c) (l .i) (omega arith)) in
+    let e : l .n ≡ ones (lowBits 8 (c .before .before .args .byte))
+    = omega (arith, ones-done (l .c) (l .i) (omega arith)) in
     ap (λ (x : ℕ). eqb (x % 2) 0) e
 
 pub is-even-spec : {M : Type 1} → statement M

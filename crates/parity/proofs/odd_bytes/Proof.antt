@@ -2,7 +2,7 @@
 use mathlib.Core.Path.{_≡_, sym, _∙_}
 use mathlib.Core.Logic.{⊎-elim}
 use mathlib.Core.List.{List}
-use Prim.Native.Nat.{ℕ, _+_, _-_, _≤_}
+use Prim.Native.Nat.{ℕ, _+_, _-_, _≤_, _<_}
 use native.Mathlib.Omega.{arith}
 use lib.ListN.{length, drop}
 use borrow.Author.Tests.{not-true, not-false}
@@ -41,21 +41,23 @@ loop-again c =
     let l = e .before .before .before in
     let b : List ℕ = l .before .before .args .bytes .now in
     let r = e .is-even .result in
+    let h : l .loop .i < length b = omega arith in
     ⊎-elim
     (λ w. (
       omega arith,
       omega arith,
-      omega (arith, w .1, odds-turn b (l .loop .i) (omega arith) (sym (e .is-even .ensures) ∙ not-true r (w .0 .taken))),
+      omega (arith, w .1, odds-turn b (l .loop .i) h (sym (e .is-even .ensures) ∙ not-true r (w .0 .taken))),
     ))
     (λ w. (
       omega arith,
       omega arith,
-      omega (arith, w .1, odds-turn b (l .loop .i) (omega arith) (sym (e .is-even .ensures) ∙ not-false r (w .0 .left))),
+      omega (arith, w .1, odds-turn b (l .loop .i) h (sym (e .is-even .ensures) ∙ not-false r (w .0 .left))),
     ))
     (c .if1 .came)
 
 returns : tie.Need-returns Inv-loop μ-loop
-returns c = let l = c .before in omega (arith, odds-done (l .before .before .args .bytes .now) (l .loop .i) (omega arith))
+returns c =
+    let l = c .before in omega (arith, odds-done (l .before .before .args .bytes .now) (l .loop .i) (omega arith))
 
 pub odd-bytes-spec : {M : Type 1} → statement M
 odd-bytes-spec =

@@ -16,12 +16,14 @@ add-result c = search needs
 returns : tie.Need-returns
 returns c =
     let v = c .before .before .args .value in
-    sym (parity-is (v % 128) (mod-lt v (zero-lt-suc 127)) (sym (c .before .is-even .ensures) ∙ c .if1 .taken)) ∙ parity-low v
+    sym (parity-is (v % 128) (mod-lt v (zero-lt-suc 127)) (sym (c .before .is-even .ensures) ∙ c .if1 .taken))
+    ∙ parity-low v
 
 returns-2 : tie.Need-returns-2
 returns-2 c =
     let v = c .before .before .args .value in
-    sym (parity-is (v % 128) (mod-lt v (zero-lt-suc 127)) (sym (c .before .is-even .ensures) ∙ c .if1 .left)) ∙ parity-low v
+    sym (parity-is (v % 128) (mod-lt v (zero-lt-suc 127)) (sym (c .before .is-even .ensures) ∙ c .if1 .left))
+    ∙ parity-low v
 
 pub with-parity-spec : {M : Type 1} → statement M
 with-parity-spec = tie.close (tie.spec is-even-requires add-result returns returns-2)

@@ -15,13 +15,16 @@ check-bits-requires : tie.Need-check-bits-requires
 check-bits-requires c κs = search needs
 
 returns : tie.Need-returns
-returns c = c .check-bits .ensures ∙ sym (remainder-short (c .before .before .before .args .block .now) (c .before .if1 .taken))
+returns c =
+    c .check-bits .ensures
+    ∙ sym (remainder-short (c .before .before .before .args .block .now) (c .before .if1 .taken))
 
 shared-slice-read-c : tie.Need-shared-slice-read-c
 shared-slice-read-c c = search needs
 
 slice-aggregate-check-bits : tie.Need-slice-aggregate-check-bits
-slice-aggregate-check-bits c = sym (length-take-le 15 (c .before .before .before .before .args .block .now) (omega arith))
+slice-aggregate-check-bits c =
+    sym (length-take-le 15 (c .before .before .before .before .args .block .now) (omega arith))
 
 check-bits-requires-2 : tie.Need-check-bits-requires-2
 check-bits-requires-2 c κs = search needs

@@ -108,7 +108,8 @@ unfolding was
 returns-4 c =
     let a = c .before .before in
     settled (was a) Repeat
-    (not-one (was a) (long a) (not-clean (c .before)) (λ (o : odds (take 16 (was a)) ≡ 1). c .if5 .taken (odd-is a ∙ o))) refl
+    (not-one (was a) (long a) (not-clean (c .before))
+    (λ (o : odds (take 16 (was a)) ≡ 1). c .if5 .taken (odd-is a ∙ o))) refl
 
 place-requires : tie.Need-place-requires
 place-requires c κs = search needs
@@ -122,7 +123,8 @@ returns-5 c =
     let p = c .before in
     let a = p .before .before .before in
     settled (was a) Repeat
-    (not-mendable (was a) (long a) (p .place .result) (p .place .ensures .0) (points p) (one-odd p) (c .if6 .taken)) refl
+    (not-mendable (was a) (long a) (p .place .result) (p .place .ensures .0) (points p) (one-odd p)
+    (c .if6 .taken)) refl
 
 cast-at : tie.Need-cast-at
 cast-at c = search needs
