@@ -1,9 +1,10 @@
 -- What the reader hands back, and that a verdict other than a refusal is of seventeen bytes. Assumes nothing.
-use mathlib.Core.Path.{_≡_, refl, ap, ap₂, _∙_, subst⁻¹}
-use mathlib.Core.List.{List, []}
+use mathlib.Core.Path.{_≡_, refl, sym, ap, ap₂, _∙_, subst⁻¹}
+use mathlib.Core.Bool.{cond}
+use mathlib.Core.List.{List, [], _∷_}
 use Prim.Native.Nat.{ℕ}
-use native.Mathlib.Omega.{arith}
-use lib.ListN.{length, getD}
+use lib.Dec.{eqb}
+use lib.ListN.{length}
 use Rattle.validity.proofs.Validity.{valid-length}
 use Rattle.validity.proofs.Alone.{flipped-length}
 use Rattle.numbers.specs.Numbers.{Told}
@@ -13,28 +14,30 @@ use Rattle.block.specs.Judging.{verdict, told, judged, leftBy, left, han
 use Rattle.block.specs.Claims.{Right}
 use Rattle.block.proofs.Verdicts.{is-right}
 
--- two verdicts that tell the same are the same: only one answer fits
+-- ---- two verdicts that tell the same are the same: only one answer fits the promise
+
+by-bit : List ℕ → Verdict
+by-bit [] = Clean
+by-bit (k ∷ ks) = Mended k
+
+retold : Told → Verdict
+retold t = cond (eqb (t .number) 3) Repeat (cond (eqb (t .number) 1) WrongLength (by-bit (t .named)))
+
+retold-told : (v : Verdict) → retold (told v) ≡ v
+unfolding retold by-bit
+retold-told Clean = refl
+retold-told (Mended k) = refl
+retold-told Repeat = refl
+retold-told WrongLength = refl
+
 pub told-one : (v w : Verdict) → told v ≡ told w → v ≡ w
-told-one Clean Clean e = refl
-told-one Clean (Mended k) e = absurd (omega (arith, ap (λ (t : Told). length (t .named)) e))
-told-one Clean Repeat e = absurd (omega (arith, ap (λ (t : Told). t .number) e))
-told-one Clean WrongLength e = absurd (omega (arith, ap (λ (t : Told). t .number) e))
-told-one (Mended j) Clean e = absurd (omega (arith, ap (λ (t : Told). length (t .named)) e))
-told-one (Mended j) (Mended k) e = ap (λ (t : Told). Mended (getD (t .named) 0 0)) e
-told-one (Mended j) Repeat e = absurd (omega (arith, ap (λ (t : Told). t .number) e))
-told-one (Mended j) WrongLength e = absurd (omega (arith, ap (λ (t : Told). t .number) e))
-told-one Repeat Clean e = absurd (omega (arith, ap (λ (t : Told). t .number) e))
-told-one Repeat (Mended k) e = absurd (omega (arith, ap (λ (t : Told). t .number) e))
-told-one Repeat Repeat e = refl
-told-one Repeat WrongLength e = absurd (omega (arith, ap (λ (t : Told). t .number) e))
-told-one WrongLength Clean e = absurd (omega (arith, ap (λ (t : Told). t .number) e))
-told-one WrongLength (Mended k) e = absurd (omega (arith, ap (λ (t : Told). t .number) e))
-told-one WrongLength Repeat e = absurd (omega (arith, ap (λ (t : Told). t .number) e))
-told-one WrongLength WrongLength e = refl
+told-one v w e = sym (retold-told v) ∙ ap retold e ∙ retold-told w
 
 pub told-verdict : (B : List ℕ) (v : Verdict) → told v ≡ judged B → v ≡ verdict B
 unfolding judged
 told-verdict B v e = told-one v (verdict B) e
+
+-- ---- what is handed back
 
 -- the part of the block left
 pub handed-as : (B C : List ℕ) (v : Verdict) → told v ≡ judged B → C ≡ left B → handedBy v C ≡ handed B

@@ -5,8 +5,10 @@ ghost use mathlib.Core.Path.{_≡_};
 ghost use mathlib.Core.List.{List, []};
 ghost use Prim.Native.Nat.{ℕ};
 ghost use Rattle.numbers.specs.Numbers.{Conditions, numberOf, GivenExactly};
-ghost use Rattle.maker.specs.Making.{makeNumber, makeLeft};
-ghost use Rattle.block.specs.Judging.{judged, left, handed, judgeConditions};
+ghost use Rattle.maker.specs.declared.Made.{Made};
+ghost use Rattle.maker.specs.Making.{makeNumber, makeLeft, told as toldMade};
+ghost use Rattle.block.specs.declared.judging.Verdict.{Verdict};
+ghost use Rattle.block.specs.Judging.{judged, left, handed, judgeConditions, told as toldVerdict};
 
 // A number is given exactly when its condition holds and none before it in the order 1, 5, 2, 4, 3 does.
 pub fn each_number_is_given_exactly_when()
@@ -23,4 +25,11 @@ pub fn the_judges_number_is_the_papers()
 pub fn refusals_leave_what_was_lent()
     ensures making { λ _. ⌜ ((vs O : List ℕ) → (makeNumber vs O ≡ 0 → ⊥) → makeLeft vs O ≡ O) ⌝ }
     ensures judging { λ _. ⌜ ((B : List ℕ) → (judged B .number ≡ 0 → ⊥) → (left B ≡ B) × (handed B ≡ [])) ⌝ }
+{}
+
+// Two answers that tell the same number, and name the same place or bit, are the same: each promise is met by one
+// outcome only.
+pub fn an_answer_is_told_in_one_way()
+    ensures making { λ _. ⌜ ((m n : Made) → toldMade m ≡ toldMade n → m ≡ n) ⌝ }
+    ensures judging { λ _. ⌜ ((v w : Verdict) → toldVerdict v ≡ toldVerdict w → v ≡ w) ⌝ }
 {}

@@ -1,10 +1,15 @@
--- The maker's number at each answer, and what it tells and leaves by its number. Assumes nothing.
-use mathlib.Core.Path.{_≡_}
-use mathlib.Core.List.{List, [], _++_}
+-- The maker's number at each answer, what it tells and leaves by its number, and that it is told in one way. Assumes
+-- nothing.
+use mathlib.Core.Path.{_≡_, refl, sym, ap, _∙_}
+use mathlib.Core.Bool.{cond}
+use mathlib.Core.List.{List, [], _∷_, _++_}
 use Prim.Native.Nat.{ℕ, _≤_, _<_}
+use lib.Dec.{eqb}
 use lib.ListN.{length, drop}
 use borrow.Author.Tests.{lt-ltb, le-ltb, eq-eqb, ne-eqb}
-use Rattle.maker.specs.declared.Made.the-variants.{TooLarge}
+use Rattle.numbers.specs.Numbers.{Told}
+use Rattle.maker.specs.declared.Made.{Made}
+use Rattle.maker.specs.declared.Made.the-variants.{Taken, WrongLength, TooLarge, NoRoom}
 use Rattle.maker.specs.Making.{firstLarge, blockOf, told, makeNumber, makeTold, makeLeft}
 
 module _ (vs O : List ℕ) where
@@ -43,3 +48,22 @@ module _ (vs O : List ℕ) where
 
   pub names-place : (p : ℕ) → p ≡ firstLarge vs → makeNumber vs O ≡ 2 → told (TooLarge p) ≡ makeTold vs O
   names-place p q e = simp (q, e)
+
+-- ---- two answers that tell the same are the same: only one fits the promise
+
+by-place : List ℕ → Made
+by-place [] = Taken
+by-place (p ∷ ps) = TooLarge p
+
+retold : Told → Made
+retold t = cond (eqb (t .number) 1) WrongLength (cond (eqb (t .number) 4) NoRoom (by-place (t .named)))
+
+retold-told : (m : Made) → retold (told m) ≡ m
+unfolding retold by-place
+retold-told Taken = refl
+retold-told WrongLength = refl
+retold-told (TooLarge p) = refl
+retold-told NoRoom = refl
+
+pub told-one : (m n : Made) → told m ≡ told n → m ≡ n
+told-one m n e = sym (retold-told m) ∙ ap retold e ∙ retold-told n
