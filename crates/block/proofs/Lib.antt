@@ -1,4 +1,1 @@
-pub mod Verdicts
-pub mod Mending
-pub mod Handed
 pub mod Returned

@@ -6,11 +6,11 @@ use lib.ListN.{length}
 use Rattle.validity.specs.Block.{Bytes}
 use Rattle.maker.specs.Making.{useful, blockOf, valuesOf}
 use Rattle.maker.proofs.Blocks.{made-valid, made-useful, valid-made}
-use Rattle.block.specs.declared.judging.Verdict.{Verdict}
-use Rattle.block.specs.declared.judging.Verdict.the-variants.{Clean}
-use Rattle.block.specs.Judging.{verdict, leftBy, left, handedBy, handed}
-use Rattle.block.specs.Claims.{Right}
-use Rattle.block.proofs.Verdicts.{is-right, right-is}
+use Rattle.reader.specs.declared.Verdict.{Verdict}
+use Rattle.reader.specs.declared.Verdict.the-variants.{Clean}
+use Rattle.reader.specs.Judging.{verdict, leftBy, left, handedBy, handed}
+use Rattle.reader.specs.Claims.{Right}
+use Rattle.reader.proofs.Verdicts.{is-right, right-is}
 
 pub made-clean : (vs : List ℕ) → length vs ≤ 15 → verdict (blockOf vs) ≡ Clean
 made-clean vs h = right-is (blockOf vs) Clean (made-valid vs h)

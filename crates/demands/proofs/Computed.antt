@@ -6,7 +6,7 @@ use Rattle.parity.specs.Parity.{ones, even, allEven, withParity}
 use Rattle.validity.specs.Block.{codeBits, remainder, valid, Valid}
 use Rattle.validity.specs.Changed.{flip, differences, distance}
 use Rattle.maker.specs.Making.{useful, sealed, blockOf}
-use Rattle.block.specs.Judging.{tryFrom, verdict, left}
+use Rattle.reader.specs.Judging.{tryFrom, verdict, left}
 use Rattle.demands.specs.Cards.{EachHolds, cards, zeros, w1}
 
 pub bench : EachHolds cards

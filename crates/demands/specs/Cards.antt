@@ -3,10 +3,10 @@ use Prim.Native.Nat.{ℕ}
 use mathlib.Core.Path.{_≡_}
 use mathlib.Core.List.{List, [], _∷_, _++_}
 use lib.ListN.{replicate}
-use Rattle.block.specs.declared.judging.Verdict.{Verdict}
-use Rattle.block.specs.declared.judging.Verdict.the-variants.{Mended, Repeat}
+use Rattle.reader.specs.declared.Verdict.{Verdict}
+use Rattle.reader.specs.declared.Verdict.the-variants.{Mended, Repeat}
 use Rattle.maker.specs.Making.{blockOf}
-use Rattle.block.specs.Judging.{verdict, left}
+use Rattle.reader.specs.Judging.{verdict, left}
 
 -- values and the block made of them; or a block that arrives, its verdict, and the block left
 pub data Card : Type 0 where

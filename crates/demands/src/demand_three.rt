@@ -2,15 +2,16 @@
 // asked exactly when there is none. A valid block hit once comes back whole; hit at any two of its 136 bits it is
 // refused.
 ghost use mathlib.Core.Path.{_≡_};
-ghost use mathlib.Core.List.{List};
+ghost use mathlib.Core.List.{List, _∷_, _++_};
 ghost use mathlib.Core.Logic.{_↔_};
 ghost use Prim.Native.Nat.{ℕ, _≤_, _<_};
 ghost use lib.ListN.{length};
 ghost use Rattle.validity.specs.Block.{Valid, Bytes};
 ghost use Rattle.validity.specs.Changed.{flip, distance};
-ghost use Rattle.block.specs.declared.judging.Verdict.the-variants.{Clean, Mended, Repeat};
-ghost use Rattle.block.specs.Judging.{verdict, left, mendable};
-ghost use Rattle.block.specs.Claims.{NoneNear, OnlyNear};
+ghost use Rattle.reader.specs.declared.Verdict.the-variants.{Clean, Mended, Repeat};
+ghost use Rattle.reader.specs.Judging.{verdict, left, mendable};
+ghost use Rattle.reader.specs.Claims.{NoneNear, OnlyNear};
+ghost use Rattle.demands.specs.Cards.{zeros, w1};
 
 // What is handed on is valid, within one mendable bit of what arrived, and the only such block; a repeat is asked
 // exactly when there is none.
@@ -34,8 +35,11 @@ pub fn hit_twice_is_refused()
         → verdict (flip h (flip i (flip j W))) ≡ Clean → ⊥) ⌝ }
 {}
 
-// Two different valid blocks of bytes differ in at least four of their 136 bits.
+// Two different valid blocks of bytes differ in at least four of their 136 bits. There are two that differ in just four:
+// so no theorem here speaks of nothing, and four is the best that can be said.
 pub fn valid_blocks_lie_four_bits_apart()
-    ensures { λ _. ⌜ ((C : List ℕ) → length C ≡ 17 → Bytes C → (B : List ℕ) → Bytes B
+    ensures apart { λ _. ⌜ ((C : List ℕ) → length C ≡ 17 → Bytes C → (B : List ℕ) → Bytes B
         → Valid B → Valid C → (B ≡ C → ⊥) → 4 ≤ distance B C) ⌝ }
+    ensures reached { λ _. ⌜ Valid w1 × Valid (3 ∷ zeros 10 ++ (68 ∷ zeros 5))
+        × (distance w1 (3 ∷ zeros 10 ++ (68 ∷ zeros 5)) ≡ 4) ⌝ }
 {}

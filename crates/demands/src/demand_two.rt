@@ -11,8 +11,8 @@ ghost use Rattle.validity.specs.Block.{codeBits, remainder, Valid, Bytes};
 ghost use Rattle.validity.specs.Changed.{flip};
 ghost use Rattle.validity.specs.Units.{unit};
 ghost use Rattle.maker.specs.Making.{Values, useful, blockOf, valuesOf};
-ghost use Rattle.block.specs.declared.judging.Verdict.the-variants.{Clean};
-ghost use Rattle.block.specs.Judging.{verdict, handed, mendable};
+ghost use Rattle.reader.specs.declared.Verdict.the-variants.{Clean};
+ghost use Rattle.reader.specs.Judging.{verdict, handed, mendable};
 
 // The remainder is zero exactly when the generator x^7 + x^3 + 1 divides the code bits as a polynomial.
 pub fn nothing_is_left_exactly_when_the_generator_divides()

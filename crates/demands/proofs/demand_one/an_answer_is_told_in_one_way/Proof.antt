@@ -1,6 +1,6 @@
 -- The theorem is proved where its words are. Assumes nothing.
 use Rattle.maker.proofs.Numbered.{told-one as one-made}
-use Rattle.block.proofs.Handed.{told-one as one-verdict}
+use Rattle.reader.proofs.Handed.{told-one as one-verdict}
 use Rattle.demands.proofs.demand_one.an_answer_is_told_in_one_way.Statement.{statement}
 use Rattle.demands.proofs.demand_one.an_answer_is_told_in_one_way.Tie as tie
 

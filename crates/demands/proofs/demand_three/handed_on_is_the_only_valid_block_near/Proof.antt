@@ -1,5 +1,5 @@
 -- The theorem is proved where its words are. Assumes nothing.
-use Rattle.block.proofs.Verdicts.{handed-on, asked-when-none}
+use Rattle.reader.proofs.Verdicts.{handed-on, asked-when-none}
 use Rattle.demands.proofs.demand_three.handed_on_is_the_only_valid_block_near.Statement.{statement}
 use Rattle.demands.proofs.demand_three.handed_on_is_the_only_valid_block_near.Tie as tie
 

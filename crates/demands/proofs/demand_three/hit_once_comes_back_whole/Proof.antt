@@ -1,5 +1,5 @@
 -- The theorem is proved where its words are. Assumes nothing.
-use Rattle.block.proofs.Verdicts.{once-whole}
+use Rattle.reader.proofs.Verdicts.{once-whole}
 use Rattle.demands.proofs.demand_three.hit_once_comes_back_whole.Statement.{statement}
 use Rattle.demands.proofs.demand_three.hit_once_comes_back_whole.Tie as tie
 

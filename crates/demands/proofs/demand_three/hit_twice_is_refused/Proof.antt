@@ -1,5 +1,5 @@
 -- The theorem is proved where its words are. Assumes nothing.
-use Rattle.block.proofs.Verdicts.{twice-refused, thrice-not-clean}
+use Rattle.reader.proofs.Verdicts.{twice-refused, thrice-not-clean}
 use Rattle.demands.proofs.demand_three.hit_twice_is_refused.Statement.{statement}
 use Rattle.demands.proofs.demand_three.hit_twice_is_refused.Tie as tie
 

@@ -1,4 +1,4 @@
--- `block::judging::mend` meets its contract: each answer is right, and so it is the judged one. Assumes nothing.
+-- `reader::mend` meets its contract: each answer is right, and so it is the judged one. Assumes nothing.
 use mathlib.Core.Path.{_≡_, refl, sym, ap, _∙_}
 use mathlib.Core.Logic.{⊎-elim}
 use mathlib.Core.List.{List}
@@ -13,11 +13,11 @@ use Rattle.parity.specs.Parity.{odds}
 use Rattle.validity.specs.Block.{remainder}
 use Rattle.validity.specs.Units.{unit}
 use Rattle.validity.proofs.Powers.{remainder-lt}
-use Rattle.block.specs.declared.judging.Verdict.the-variants.{Clean, Mended, Repeat, WrongLength}
-use Rattle.block.proofs.Verdicts.{settled}
-use Rattle.block.proofs.Mending.{not-zero, clean, not-one, not-mendable, elsewhere, mended}
-use Rattle.block.proofs.judging.mend.Statement.{statement}
-use Rattle.block.proofs.judging.mend.Tie as tie
+use Rattle.reader.specs.declared.Verdict.the-variants.{Clean, Mended, Repeat, WrongLength}
+use Rattle.reader.proofs.Verdicts.{settled}
+use Rattle.reader.proofs.Mending.{not-zero, clean, not-one, not-mendable, elsewhere, mended}
+use Rattle.reader.proofs.mend.Statement.{statement}
+use Rattle.reader.proofs.mend.Tie as tie
 
 -- ---- what is known once the remainder is: the block has seventeen bytes, and the last is zero
 

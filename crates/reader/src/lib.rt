@@ -1,6 +1,13 @@
-// The reader.
+// The reader of blocks (01, "Judging", "Numbers given"; 001, section 5-3-4).
+//
+// `mend` judges a lent block in place: clean, mended with the bit that it changed, repeat, or a wrong length. `judge`
+// is `mend` in the form that 01 names: it hands back the first fifteen bytes of the lent block itself.
+// specs/Judging says what each call tells and leaves, for any bytes; nothing is asked of a caller. The judge is
+// promised the long way round (no change, then each mendable bit in turn) and finds its bit the short way, by the
+// remainder and the one byte of odd parity. proofs/Verdicts is the one door by which any judge is shown to be right,
+// and has demand 3.
 ghost use mathlib.Core.Path.{_≡_};
-ghost use Rattle.block.specs.Judging.{judged, left, handed, bitNamed, told};
+ghost use Rattle.reader.specs.Judging.{judged, left, handed, bitNamed, told};
 
 pub enum Verdict {
     Clean,

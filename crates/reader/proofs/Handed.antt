@@ -8,11 +8,11 @@ use lib.ListN.{length}
 use Rattle.validity.proofs.Validity.{valid-length}
 use Rattle.validity.proofs.Alone.{flipped-length}
 use Rattle.numbers.specs.Numbers.{Told}
-use Rattle.block.specs.declared.judging.Verdict.{Verdict}
-use Rattle.block.specs.declared.judging.Verdict.the-variants.{Clean, Mended, Repeat, WrongLength}
-use Rattle.block.specs.Judging.{verdict, told, judged, leftBy, left, handedBy, handed}
-use Rattle.block.specs.Claims.{Right}
-use Rattle.block.proofs.Verdicts.{is-right}
+use Rattle.reader.specs.declared.Verdict.{Verdict}
+use Rattle.reader.specs.declared.Verdict.the-variants.{Clean, Mended, Repeat, WrongLength}
+use Rattle.reader.specs.Judging.{verdict, told, judged, leftBy, left, handedBy, handed}
+use Rattle.reader.specs.Claims.{Right}
+use Rattle.reader.proofs.Verdicts.{is-right}
 
 -- ---- two verdicts that tell the same are the same: only one answer fits the promise
 

@@ -15,9 +15,9 @@ use Rattle.validity.proofs.Powers.{code-length}
 use Rattle.validity.proofs.Marks.{remainder-inj}
 use Rattle.validity.proofs.Validity.{valid-even, valid-remainder, valid-last, is-valid}
 use Rattle.validity.proofs.Odd.{Mends, mends-only, mends-where, none-odd, all-even}
-use Rattle.block.specs.declared.judging.Verdict.the-variants.{Clean, Mended, Repeat}
-use Rattle.block.specs.Judging.{mendable}
-use Rattle.block.specs.Claims.{Right}
+use Rattle.reader.specs.declared.Verdict.the-variants.{Clean, Mended, Repeat}
+use Rattle.reader.specs.Judging.{mendable}
+use Rattle.reader.specs.Claims.{Right}
 
 module _ (B : List ℕ) (l : length B ≡ 17) where
   -- not valid as it stands, and no bit mends it

@@ -18,10 +18,10 @@ use Rattle.validity.specs.Changed.{flip, Near, same, changed}
 use Rattle.validity.proofs.Flips.{flip-length, flip-flip}
 use Rattle.validity.proofs.Validity.{valid-length}
 use Rattle.validity.proofs.Alone.{flipped-length, hit-once, hit-twice, hit-thrice, one-place}
-use Rattle.block.specs.declared.judging.Verdict.{Verdict}
-use Rattle.block.specs.declared.judging.Verdict.the-variants.{Clean, Mended, Repeat, WrongLength}
-use Rattle.block.specs.Judging.{mendable, tryFrom, verdict, told, judged, leftBy, left, oneMends, judgeConditions}
-use Rattle.block.specs.Claims.{NoneNear, Right, OnlyNear}
+use Rattle.reader.specs.declared.Verdict.{Verdict}
+use Rattle.reader.specs.declared.Verdict.the-variants.{Clean, Mended, Repeat, WrongLength}
+use Rattle.reader.specs.Judging.{mendable, tryFrom, verdict, told, judged, leftBy, left, oneMends, judgeConditions}
+use Rattle.reader.specs.Claims.{NoneNear, Right, OnlyNear}
 
 -- ---- the search finds the first bit that mends, if there is one
 
