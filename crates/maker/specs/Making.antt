@@ -1,7 +1,7 @@
 -- What the maker tells and leaves, for any values and any output (01, "The block", "Numbers given"). Assumes
 -- nothing.
 use Prim.Native.Nat.{ℕ, suc, _-_, _%_, _<_}
-use mathlib.Core.Bool.{Bool, false, cond, _||_}
+use mathlib.Core.Bool.{false, cond, _||_}
 use mathlib.Core.List.{List, [], _∷_, _++_, map}
 use lib.Dec.{eqb, ltb}
 use lib.ListN.{length, getD, take, drop, replicate}

@@ -64,14 +64,6 @@ even-ones (a ∷ A) t =
     ∙ ap₂ (λ (x y : ℕ). (x + y) % 2) (eqb→eq (ones (lowBits 8 a) % 2) 0 (and-left (even a) (allEven A) t))
     (even-ones A (and-right (even a) (allEven A) t))
 
--- the sum of two even bytes is even
-pub even-xor : (a b : ℕ) → T (even a) → T (even b) → even (bitXor a b) ≡ true
-unfolding even
-even-xor a b p q =
-    eq-eqb (ones (lowBits 8 (bitXor a b)) % 2) 0 (ones-sum (low-sum 8 a b) (low-digits 8 a) (low-digits 8 b)
-    ∙ add-mod (ones (lowBits 8 a)) (ones (lowBits 8 b)) 2
-    ∙ ap₂ (λ (x y : ℕ). (x + y) % 2) (eqb→eq (ones (lowBits 8 a) % 2) 0 p) (eqb→eq (ones (lowBits 8 b) % 2) 0 q))
-
 -- ---- a value with parity
 
 -- only the n low bits are read
@@ -127,10 +119,6 @@ unfolding like
 parity-is v h e =
     eqb→eq (withParity v) (cond (even v) v (v + 128)) (at like 128 all-like v h)
     ∙ ap (λ (t : Bool). cond t v (v + 128)) e
-
-pub parity-lt : (v : ℕ) → withParity v < 256
-unfolding withParity
-parity-lt v = omega arith
 
 -- without parity it is the value again
 pub parity-off : (v : ℕ) → v < 128 → withParity v % 128 ≡ v

@@ -1,5 +1,5 @@
 -- The quick way to a verdict: one byte alone is odd, and the remainder points to a bit in it. Assumes nothing.
-use mathlib.Core.Path.{_≡_, sym, _∙_, ap, subst, subst⁻¹}
+use mathlib.Core.Path.{_≡_, sym, _∙_, subst}
 use mathlib.Core.Bool.{true, false}
 use mathlib.Core.List.{List}
 use Prim.Native.Nat.{ℕ, _/_, _≤_, _<_}
@@ -9,7 +9,7 @@ use lib.ListN.{length, getD, take}
 use Rattle.laws.proofs.Computed.{fails, holds}
 use Rattle.parity.specs.Parity.{even, odds}
 use Rattle.validity.specs.Block.{codeBits, remainder, Valid}
-use Rattle.validity.specs.Changed.{flip, Near, same, changed}
+use Rattle.validity.specs.Changed.{Near, same, changed}
 use Rattle.validity.specs.Units.{unit}
 use Rattle.validity.proofs.Powers.{code-length}
 use Rattle.validity.proofs.Marks.{remainder-inj}

@@ -128,9 +128,6 @@ handed-on B l ne = only-left B (verdict B) l (is-right B) ne
 pub asked-when-none : (B : List ℕ) → length B ≡ 17 → verdict B ≡ Repeat ↔ NoneNear B
 asked-when-none B l = (λ e. subst (Right B) e (is-right B) .1, λ f. right-is B Repeat (l, f))
 
-pub refused-when-other : (B : List ℕ) → verdict B ≡ WrongLength ↔ (length B ≡ 17 → ⊥)
-refused-when-other B = (λ e. subst (Right B) e (is-right B), λ f. right-is B WrongLength f)
-
 -- a valid block hit once among the mendable bits comes back whole
 pub once-whole : (W : List ℕ) (k : ℕ) → Valid W → k < mendable
     → (verdict (flip k W) ≡ Mended k) × (left (flip k W) ≡ W)

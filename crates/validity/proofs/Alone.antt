@@ -13,7 +13,7 @@ use Rattle.division.specs.Division.{lowBits, bits}
 use Rattle.division.proofs.Bytes.{bits-append, bits-digits}
 use Rattle.division.proofs.Linear.{bits-sum}
 use Rattle.parity.specs.Parity.{ones}
-use Rattle.validity.specs.Block.{remainder, Valid}
+use Rattle.validity.specs.Block.{Valid}
 use Rattle.validity.specs.Changed.{flip}
 use Rattle.validity.specs.Units.{unit}
 use Rattle.parity.proofs.Parities.{ones-sum, ones-append, even-ones}

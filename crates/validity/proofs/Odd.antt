@@ -1,6 +1,6 @@
 -- A bit mends a block exactly where the last byte is zero, one byte alone has odd parity, the bit lies in it, and
 -- the remainder is that of the bit. Assumes nothing.
-use mathlib.Core.Path.{_≡_, refl, sym, ap, ap₂, _∙_, subst⁻¹}
+use mathlib.Core.Path.{_≡_, refl, sym, ap, ap₂, _∙_}
 use mathlib.Core.Bool.{Bool, true, false, cond, _&&_, not}
 use mathlib.Core.List.{List, [], _∷_}
 use Prim.Native.Nat.{ℕ, zero, suc, _+_, _/_, _%_, _^_, _<_}
@@ -11,7 +11,7 @@ use lib.ListN.{length, getD, take, set}
 use lib.Seq.{take-set-lt, getD-take, length-take-le, getD-set-other}
 use lib.Bits.{bitXor, xor-self}
 use borrow.Author.Tests.{eqb-true, eqb-false}
-use Rattle.laws.proofs.Computed.{at, below, holds}
+use Rattle.laws.proofs.Computed.{at, below}
 use Rattle.laws.proofs.Xor.{xor-zero-eq}
 use Rattle.division.specs.Division.{lowBits}
 use Rattle.division.proofs.Bytes.{low-digits}
