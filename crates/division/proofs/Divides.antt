@@ -1,7 +1,7 @@
 -- The remainder is that of polynomials: it is zero exactly where the bits spell a multiple of the generator.
 -- Assumes nothing.
 use mathlib.Core.Path.{_≡_, refl, sym, ap, ap₂, _∙_, subst, subst⁻¹}
-use mathlib.Core.List.{List, [], _∷_}
+use mathlib.Core.List.{List}
 use mathlib.Core.Logic.{⊎-elim, _↔_}
 use Prim.Native.Nat.{ℕ, zero, suc, _+_, _*_, _/_, _^_, _<_}
 use native.Mathlib.Nat.{zero-lt-suc, add-zero, pow-suc, mul-div-cancel}

@@ -1,7 +1,7 @@
 -- Division is linear: what it leaves of a sum of two rows of bits is the sum of what it leaves of each. Assumes
 -- nothing.
 use mathlib.Core.Path.{_≡_, refl, sym, ap, ap₂, _∙_, subst⁻¹}
-use mathlib.Core.List.{List, [], _∷_, _++_, reverse, reverseAux}
+use mathlib.Core.List.{List, _∷_, reverse, reverseAux}
 use mathlib.Core.Logic.{⊎-elim}
 use Prim.Native.Nat.{ℕ, zero, suc, _+_, _-_, _*_, _/_, _%_, _^_, _≤_, _<_}
 use native.Mathlib.Omega.{arith}

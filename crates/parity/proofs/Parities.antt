@@ -11,15 +11,12 @@ use lib.ListN.{length, getD, drop, drop-of-length-le}
 use lib.Seq.{drop-cons}
 use lib.Dec.{T, eqb, eqb→eq}
 use lib.Bits.{bitXor, differ}
-use borrow.Author.Tests.{eq-eqb}
 use Rattle.laws.proofs.Computed.{below, at, and-left, and-right}
 use Rattle.laws.proofs.Xor.{xor-odd, digit-sum}
 use Rattle.laws.proofs.Sums.{Sum, none, more}
 use Rattle.division.specs.Division.{lowBits, bits}
 use Rattle.division.specs.Polynomials.{Digits}
 use Rattle.division.specs.Polynomials
-use Rattle.division.proofs.Bytes.{low-digits}
-use Rattle.division.proofs.Linear.{low-sum}
 use Rattle.parity.specs.Parity.{ones, even, allEven, odds, withParity}
 
 -- ---- ones add up, but for pairs that cancel

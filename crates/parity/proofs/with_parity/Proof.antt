@@ -1,5 +1,5 @@
 -- `parity::with_parity` meets its contract. Assumes nothing.
-use mathlib.Core.Path.{_≡_, sym, _∙_}
+use mathlib.Core.Path.{sym, _∙_}
 use Prim.Native.Nat.{_%_}
 use native.Mathlib.Nat.{mod-lt, zero-lt-suc}
 use borrow.Author.Needs.{needs}

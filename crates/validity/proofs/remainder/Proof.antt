@@ -1,9 +1,9 @@
 -- `validity::remainder` meets its contract. Assumes nothing.
-use mathlib.Core.Path.{_≡_, sym, ap, _∙_}
+use mathlib.Core.Path.{sym, ap, _∙_}
 use mathlib.Core.List.{List}
 use Prim.Native.Nat.{ℕ, _%_}
 use native.Mathlib.Omega.{arith}
-use lib.ListN.{getD, take}
+use lib.ListN.{getD}
 use lib.Seq.{length-take-le}
 use lib.Bits.{bitXor}
 use borrow.Author.Needs.{needs}
