@@ -2,63 +2,36 @@
 // format of docs/TRIAL.md. With file names as arguments it runs those scripts in turn, each from the start state; with
 // none it reads standard input.
 //
-// lines.rt      a script cut into lines
-// words.rt      a line cut into words, and the bytes and numbers that words name
+// lines.rt      a script cut into lines, and each line answered
+// words.rt      the bytes and numbers that words name
 // parts.rt      parts of lent memory
-// answer.rt     an answer built and written
 // blocks.rt     the commands of the block code; each further family of commands is such a file
-mod answer;
 mod blocks;
 mod lines;
 mod parts;
 mod words;
 
-use answer::ROOM;
 use lines::LONGEST;
-use lines::PORTION;
-use parts::first;
 
-// Answers a command, of whatever family: the length of the answer, or 0 where the line is no command.
-fn obey(line: &[u8], out: &mut [u8; ROOM]) -> usize {
-    blocks::obey(line, out)
-}
-
-// Answers the first `length` characters of `line`; whether the answer could be written. An empty line and a remark get
-// none, and a line that did not fit is no command.
-fn reply(line: &[u8; LONGEST], length: usize, number: u64, out: &mut [u8; ROOM]) -> bool {
-    if length == 0 {
-        return true;
-    }
-    if line[0] == b'#' {
-        return true;
-    }
-    let mut n = 0;
-    if length <= LONGEST {
-        n = obey(first(line, length), out);
-    }
-    if n == 0 {
-        n = answer::refusal(number, out);
-    }
-    answer::write(out, n)
-}
-
-// Runs one script from the start state, to its end or until an answer cannot be written. `name` is for error lines.
+// Runs one script to its end, or until an answer cannot be written. `name` is for error lines.
 fn run(fd: i32, name: &[u8]) {
-    let mut portion = [0u8; PORTION];
     let mut line = [0u8; LONGEST];
-    let mut out = [0u8; ROOM];
     let mut at = lines::start();
-    let mut number: u64 = 1;
-    while number < u64::MAX {
-        at = lines::next(fd, name, at, &mut portion, &mut line);
-        if !reply(&line, at.length, number, &mut out) {
-            os::fail(b"standard output");
+    let mut portion = io::large_buffer();
+    let mut turns = u64::MAX;
+    while turns > 0 {
+        let got = libc::read(fd, &mut portion);
+        if got < 0 {
+            os::fail(name);
             return;
         }
-        if at.last {
+        if got == 0 {
+            lines::end(at, &line);
             return;
         }
-        number += 1;
+        let n = io::count(got, &portion);
+        at = lines::feed(at, &portion[..n], &mut line);
+        turns -= 1;
     }
 }
 

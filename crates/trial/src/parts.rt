@@ -1,8 +1,6 @@
-// Parts of lent memory.
-ghost use Prim.Native.Nat.{_≤_};
-ghost use lib.ListN.{length};
+// Parts of lent memory: the first bytes of it, or all of them where it has fewer, so that a caller has no length to
+// prove.
 
-// The first `n` bytes of `s`, or all of them where it has fewer, so that a caller has no length to prove.
 pub(crate) fn first(s: &[u8], n: usize) -> &[u8] {
     if n < s.len() {
         return &s[..n];
@@ -10,7 +8,7 @@ pub(crate) fn first(s: &[u8], n: usize) -> &[u8] {
     s
 }
 
-// The same, lent to be written.
+// Lent to be written.
 pub(crate) fn first_mut(s: &mut [u8], n: usize) -> &mut [u8] {
     if n < s.len() {
         return &mut s[..n];
@@ -18,17 +16,15 @@ pub(crate) fn first_mut(s: &mut [u8], n: usize) -> &mut [u8] {
     s
 }
 
-// The place of the first byte `c` of `s` from `from` on, or `to` where there is none before it.
-pub(crate) fn find(s: &[u8], c: u8, from: usize, to: usize) -> usize
-    requires { ⌜ (from ≤ to) × (to ≤ length (now s)) ⌝ }
-    ensures { λ r. ⌜ (from ≤ r) × (r ≤ to) ⌝ }
-{
-    let mut at = from;
-    while at < to {
-        if s[at] == c {
-            return at;
+// Copies what fits of `from` to the start of `to`: how many bytes.
+pub(crate) fn copy(from: &[u8], to: &mut [u8]) -> usize {
+    let mut i = 0;
+    while i < from.len() {
+        if i >= to.len() {
+            return i;
         }
-        at += 1;
+        to[i] = from[i];
+        i += 1;
     }
-    at
+    i
 }

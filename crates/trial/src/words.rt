@@ -1,48 +1,13 @@
-// A line cut into words at single spaces, and the bytes and numbers that words name. A line with a space too many has
-// an empty word there, which names nothing.
-ghost use Prim.Native.Nat.{_≤_};
-ghost use lib.ListN.{length};
-use crate::parts::find;
+// The bytes and numbers that words name, and bytes as a word.
+use crate::parts::first;
 
-// What the functions below answer where a word names nothing.
-pub(crate) const NONE: usize = usize::MAX;
+// As many bytes as a word may name.
+pub(crate) const MOST: usize = 64;
 
-// How many spaces a line has: one fewer than it has words.
-pub(crate) fn spaces(line: &[u8]) -> usize {
-    let mut n: usize = 0;
-    let mut i = 0;
-    while i < line.len() {
-        if line[i] == b' ' {
-            n += 1;
-        }
-        i += 1;
-    }
-    n
-}
+// What is answered where a word names nothing.
+pub(crate) const NONE: usize = 65;
 
-// The place where word `k` begins, counted from 0, or the line's end where there are fewer words.
-fn start(line: &[u8], k: usize) -> usize
-    ensures { λ r. ⌜ r ≤ length (now (line .entry)) ⌝ }
-{
-    let mut left = k;
-    let mut at = 0;
-    while at < line.len() && left > 0 {
-        if line[at] == b' ' {
-            left -= 1;
-        }
-        at += 1;
-    }
-    at
-}
-
-// Word `k` of a line, counted from 0; empty where there are fewer words.
-pub(crate) fn word(line: &[u8], k: usize) -> &[u8] {
-    let a = start(line, k);
-    let e = find(line, b' ', a, line.len());
-    &line[a..e]
-}
-
-// Whether a word is this name.
+// Whether two words are the same.
 pub(crate) fn is(word: &[u8], name: &[u8]) -> bool {
     if word.len() != name.len() {
         return false;
@@ -66,8 +31,8 @@ fn digit(c: u8) -> u8 {
     }
 }
 
-// Puts the bytes that a word names at the start of `out`: how many they are, or NONE where the word is no such word or
-// names more than `out` can hold.
+// Puts the bytes that a word names at the start of `out`: how many they are, or NONE where it names none, or more than
+// fit.
 pub(crate) fn bytes(word: &[u8], out: &mut [u8]) -> usize {
     if is(word, b"-") {
         return 0;
@@ -95,31 +60,53 @@ pub(crate) fn bytes(word: &[u8], out: &mut [u8]) -> usize {
     n
 }
 
-// The decimal number that a word names, or NONE where the word is no such word or names one above `most`. Each sum is
-// held against `most` before it is made, so none wraps.
-pub(crate) fn decimal(word: &[u8], most: usize) -> usize {
-    if word.len() == 0 {
+// The decimal number of one or two digits that a word names, or NONE where that is above MOST: so it is for every
+// number of the format so far.
+pub(crate) fn decimal(word: &[u8]) -> usize {
+    if word.len() == 0 || word.len() > 2 {
         return NONE;
     }
-    if word.len() > 1 && word[0] == b'0' {
+    let first = digit(word[0]);
+    if first > 9 {
         return NONE;
     }
-    let mut n: usize = 0;
+    if word.len() == 1 {
+        return first as usize;
+    }
+    let second = digit(word[1]);
+    if second > 9 {
+        return NONE;
+    }
+    if first == 0 {
+        return NONE;
+    }
+    let n = (first * 10 + second) as usize;
+    if n > MOST { NONE } else { n }
+}
+
+const DIGITS: [u8; 16] = *b"0123456789abcdef";
+
+// The character of a hex digit.
+fn hex(n: u8) -> u8 {
+    DIGITS[(n % 16) as usize]
+}
+
+// Writes a space and bytes as a word, `-` for none; no command has more than MOST.
+pub(crate) fn write_bytes(bytes: &[u8]) {
+    if bytes.len() == 0 {
+        io::write_all(1, b" -");
+        return;
+    }
+    if bytes.len() > MOST {
+        return;
+    }
+    let mut text = [b' '; 2 * MOST + 1];
     let mut i = 0;
-    while i < word.len() {
-        let d = digit(word[i]) as usize;
-        if d > 9 {
-            return NONE;
-        }
-        if n > most / 10 {
-            return NONE;
-        }
-        let tens = n * 10;
-        if d > most - tens {
-            return NONE;
-        }
-        n = tens + d;
+    while i < bytes.len() {
+        let at = 2 * i + 1;
+        text[at] = hex(bytes[i] / 16);
+        text[at + 1] = hex(bytes[i]);
         i += 1;
     }
-    n
+    io::write_all(1, first(&text, 2 * i + 1));
 }

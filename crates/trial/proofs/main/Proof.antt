@@ -1,3 +1,4 @@
+-- `trial::main` is safe and ends. Assumes nothing.
 use Prim.Native.Nat.{_-_}
 use borrow.Author.Needs.{needs}
 use Rattle.trial.proofs.main.Statement.{statement}

@@ -1,34 +1,30 @@
-use Prim.Native.Nat.{_≤_, _-_}
+-- `trial::run` is safe and ends. Assumes nothing.
 use mathlib.Core.Path.{_≡_}
-use borrow.Author.Needs.{needs}
 use lib.ListN.{length}
+use borrow.Author.Needs.{needs}
 use Rattle.trial.proofs.run.Statement.{statement}
 use Rattle.trial.proofs.run.Tie as tie
 
 abbrev Inv-loop : tie.InvT-loop
-Inv-loop fd name portion₀ line₀ out₀ at₀ number₀ t8 portion line out at number =
-    (at .from ≤ at .to) × (at .to ≤ length portion) × (length portion ≡ 65536)
+Inv-loop fd name line₀ at₀ portion₀ turns₀ line at portion turns = (length line ≡ 9000) × (length portion ≡ 65536)
 
 abbrev μ-loop : tie.MeasureT-loop
-μ-loop fd name portion₀ line₀ out₀ at₀ number₀ t8 portion line out at number = 18446744073709551615 - number
+μ-loop fd name line₀ at₀ portion₀ turns₀ line at portion turns = turns
 
 start-requires : tie.Need-start-requires Inv-loop μ-loop
 start-requires c κs = search needs
 
+large-buffer-requires : tie.Need-large-buffer-requires Inv-loop μ-loop
+large-buffer-requires c κs = search needs
+
 loop-holds : tie.Need-loop-holds Inv-loop μ-loop
 loop-holds c = search needs
 
-slice-aggregate-next : tie.Need-slice-aggregate-next Inv-loop μ-loop
-slice-aggregate-next c = search needs
+slice-aggregate-read : tie.Need-slice-aggregate-read Inv-loop μ-loop
+slice-aggregate-read c = search needs
 
-next-requires : tie.Need-next-requires Inv-loop μ-loop
-next-requires c κs = search needs
-
-reply-requires : tie.Need-reply-requires Inv-loop μ-loop
-reply-requires c κs = search needs
-
-slice-aggregate-fail : tie.Need-slice-aggregate-fail Inv-loop μ-loop
-slice-aggregate-fail c = search needs
+read-requires : tie.Need-read-requires Inv-loop μ-loop
+read-requires c κs = search needs
 
 fail-requires : tie.Need-fail-requires Inv-loop μ-loop
 fail-requires c κs = search needs
@@ -36,11 +32,35 @@ fail-requires c κs = search needs
 returns : tie.Need-returns Inv-loop μ-loop
 returns c = search needs
 
+slice-aggregate-end : tie.Need-slice-aggregate-end Inv-loop μ-loop
+slice-aggregate-end c = search needs
+
+end-requires : tie.Need-end-requires Inv-loop μ-loop
+end-requires c κs = search needs
+
 returns-2 : tie.Need-returns-2 Inv-loop μ-loop
 returns-2 c = search needs
 
-add-number : tie.Need-add-number Inv-loop μ-loop
-add-number c = search needs
+slice-aggregate-count : tie.Need-slice-aggregate-count Inv-loop μ-loop
+slice-aggregate-count c = search needs
+
+count-requires : tie.Need-count-requires Inv-loop μ-loop
+count-requires c κs = search needs
+
+array-share-prefix-portion : tie.Need-array-share-prefix-portion Inv-loop μ-loop
+array-share-prefix-portion c = search needs
+
+slice-aggregate-feed : tie.Need-slice-aggregate-feed Inv-loop μ-loop
+slice-aggregate-feed c = search needs
+
+slice-aggregate-feed-2 : tie.Need-slice-aggregate-feed-2 Inv-loop μ-loop
+slice-aggregate-feed-2 c = search needs
+
+feed-requires : tie.Need-feed-requires Inv-loop μ-loop
+feed-requires c κs = search needs
+
+sub-turns : tie.Need-sub-turns Inv-loop μ-loop
+sub-turns c = search needs
 
 loop-less : tie.Need-loop-less Inv-loop μ-loop
 loop-less c = search needs
@@ -58,15 +78,22 @@ run-spec =
     Inv-loop
     μ-loop
     start-requires
+    large-buffer-requires
     loop-holds
-    slice-aggregate-next
-    next-requires
-    reply-requires
-    slice-aggregate-fail
+    slice-aggregate-read
+    read-requires
     fail-requires
     returns
+    slice-aggregate-end
+    end-requires
     returns-2
-    add-number
+    slice-aggregate-count
+    count-requires
+    array-share-prefix-portion
+    slice-aggregate-feed
+    slice-aggregate-feed-2
+    feed-requires
+    sub-turns
     loop-less
     loop-again
     returns-3)

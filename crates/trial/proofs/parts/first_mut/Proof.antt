@@ -1,3 +1,4 @@
+-- `trial::parts::first_mut` is safe and ends. Assumes nothing.
 use mathlib.Core.Path.{sym}
 use native.Mathlib.Omega.{arith}
 use borrow.Author.Needs.{needs}

@@ -1,7 +1,8 @@
+-- `trial::words::bytes` is safe and ends. Assumes nothing.
 use Prim.Native.Nat.{_≤_, _-_}
 use mathlib.Core.Path.{_≡_}
-use borrow.Author.Needs.{needs}
 use lib.ListN.{length}
+use borrow.Author.Needs.{needs}
 use Rattle.trial.proofs.words.bytes.Statement.{statement}
 use Rattle.trial.proofs.words.bytes.Tie as tie
 

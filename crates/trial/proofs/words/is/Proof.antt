@@ -1,6 +1,7 @@
+-- `trial::words::is` is safe and ends. Assumes nothing.
 use Prim.Native.Nat.{_≤_, _-_}
-use borrow.Author.Needs.{needs}
 use lib.ListN.{length}
+use borrow.Author.Needs.{needs}
 use Rattle.trial.proofs.words.is.Statement.{statement}
 use Rattle.trial.proofs.words.is.Tie as tie
 

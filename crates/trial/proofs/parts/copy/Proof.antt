@@ -1,9 +1,10 @@
+-- `trial::parts::copy` is safe and ends. Assumes nothing.
 use Prim.Native.Nat.{_≤_, _-_}
 use mathlib.Core.Path.{_≡_}
 use borrow.Author.Needs.{needs}
 use lib.ListN.{length}
-use Rattle.trial.proofs.blocks.copy.Statement.{statement}
-use Rattle.trial.proofs.blocks.copy.Tie as tie
+use Rattle.trial.proofs.parts.copy.Statement.{statement}
+use Rattle.trial.proofs.parts.copy.Tie as tie
 
 abbrev Inv-loop : tie.InvT-loop
 Inv-loop from to₀ i₀ to i = (i ≤ length from) × (length to ≡ length to₀)
