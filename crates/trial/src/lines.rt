@@ -15,14 +15,6 @@ pub(crate) struct At {
     pub(crate) number: u64,
 }
 
-// Before the first line.
-pub(crate) fn start() -> At {
-    At {
-        length: 0,
-        number: 1,
-    }
-}
-
 // Answers a line. An empty line and a remark get no answer; one that is too long is no command.
 pub(crate) fn end(at: At, line: &[u8]) {
     let n = at.length;

@@ -11,12 +11,16 @@ mod lines;
 mod parts;
 mod words;
 
+use lines::At;
 use lines::LONGEST;
 
 // Runs one script to its end, or until an answer cannot be written. `name` is for error lines.
 fn run(fd: i32, name: &[u8]) {
     let mut line = [0u8; LONGEST];
-    let mut at = lines::start();
+    let mut at = At {
+        length: 0,
+        number: 1,
+    };
     let mut portion = io::large_buffer();
     let mut turns = u64::MAX;
     while turns > 0 {

@@ -86,11 +86,6 @@ pub(crate) fn decimal(word: &[u8]) -> usize {
 
 const DIGITS: [u8; 16] = *b"0123456789abcdef";
 
-// The character of a hex digit.
-fn hex(n: u8) -> u8 {
-    DIGITS[(n % 16) as usize]
-}
-
 // Writes a space and bytes as a word, `-` for none; no command has more than MOST.
 pub(crate) fn write_bytes(bytes: &[u8]) {
     if bytes.len() == 0 {
@@ -104,8 +99,8 @@ pub(crate) fn write_bytes(bytes: &[u8]) {
     let mut i = 0;
     while i < bytes.len() {
         let at = 2 * i + 1;
-        text[at] = hex(bytes[i] / 16);
-        text[at + 1] = hex(bytes[i]);
+        text[at] = DIGITS[(bytes[i] / 16 % 16) as usize];
+        text[at + 1] = DIGITS[(bytes[i] % 16) as usize];
         i += 1;
     }
     io::write_all(1, first(&text, 2 * i + 1));

@@ -11,9 +11,6 @@ Inv-loop fd name line₀ at₀ portion₀ turns₀ line at portion turns = (leng
 abbrev μ-loop : tie.MeasureT-loop
 μ-loop fd name line₀ at₀ portion₀ turns₀ line at portion turns = turns
 
-start-requires : tie.Need-start-requires Inv-loop μ-loop
-start-requires c κs = search needs
-
 large-buffer-requires : tie.Need-large-buffer-requires Inv-loop μ-loop
 large-buffer-requires c κs = search needs
 
@@ -77,7 +74,6 @@ run-spec =
     (tie.spec
     Inv-loop
     μ-loop
-    start-requires
     large-buffer-requires
     loop-holds
     slice-aggregate-read

@@ -33,20 +33,26 @@ mul-at c = search needs
 add-at : tie.Need-add-at Inv-loop μ-loop
 add-at c = search needs
 
-shared-slice-read-hex : tie.Need-shared-slice-read-hex Inv-loop μ-loop
-shared-slice-read-hex c = search needs
+shared-slice-read-text : tie.Need-shared-slice-read-text Inv-loop μ-loop
+shared-slice-read-text c = search needs
 
-hex-requires : tie.Need-hex-requires Inv-loop μ-loop
-hex-requires c κs = search needs
+cast-text : tie.Need-cast-text Inv-loop μ-loop
+cast-text c = search needs
+
+array-read-text : tie.Need-array-read-text Inv-loop μ-loop
+array-read-text c = search needs
 
 array-write-text : tie.Need-array-write-text Inv-loop μ-loop
 array-write-text c = search needs
 
-shared-slice-read-hex-2 : tie.Need-shared-slice-read-hex-2 Inv-loop μ-loop
-shared-slice-read-hex-2 c = search needs
+shared-slice-read-text-2 : tie.Need-shared-slice-read-text-2 Inv-loop μ-loop
+shared-slice-read-text-2 c = search needs
 
-hex-requires-2 : tie.Need-hex-requires-2 Inv-loop μ-loop
-hex-requires-2 c κs = search needs
+cast-text-2 : tie.Need-cast-text-2 Inv-loop μ-loop
+cast-text-2 c = search needs
+
+array-read-text-2 : tie.Need-array-read-text-2 Inv-loop μ-loop
+array-read-text-2 c = search needs
 
 add-text : tie.Need-add-text Inv-loop μ-loop
 add-text c = search needs
@@ -94,11 +100,13 @@ write-bytes-spec =
     loop-holds
     mul-at
     add-at
-    shared-slice-read-hex
-    hex-requires
+    shared-slice-read-text
+    cast-text
+    array-read-text
     array-write-text
-    shared-slice-read-hex-2
-    hex-requires-2
+    shared-slice-read-text-2
+    cast-text-2
+    array-read-text-2
     add-text
     array-write-text-2
     add-i
