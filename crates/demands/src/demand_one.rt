@@ -10,9 +10,9 @@ ghost use Rattle.maker.specs.Making.{makeNumber, makeLeft, told as toldMade};
 ghost use Rattle.reader.specs.declared.Verdict.{Verdict};
 ghost use Rattle.reader.specs.Judging.{judged, left, handed, judgeConditions, told as toldVerdict};
 
-// A number is given exactly when its condition holds and none before it in the order 1, 5, 2, 4, 3 does. The judge's
-// number comes of the paper's conditions: the block has not seventeen bytes, or no valid block is within one mendable
-// bit. (The maker's comes of them by definition.)
+// A number is given exactly when its condition holds and none before it in the order 1, 5, 2, 4, 3 does. The
+// judge's number comes of the paper's conditions: the block has not seventeen bytes, or no valid block is within
+// one mendable bit. (The maker's comes of them by definition.)
 pub fn each_number_is_given_exactly_when()
     ensures order { λ _. ⌜ ((c : Conditions) → GivenExactly c) ⌝ }
     ensures judging { λ _. ⌜ ((B : List ℕ) → judged B .number ≡ numberOf (judgeConditions B)) ⌝ }

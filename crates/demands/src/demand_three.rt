@@ -35,8 +35,8 @@ pub fn hit_twice_is_refused()
         → verdict (flip h (flip i (flip j W))) ≡ Clean → ⊥) ⌝ }
 {}
 
-// Two different valid blocks of bytes differ in at least four of their 136 bits. There are two that differ in just four:
-// so no theorem here speaks of nothing, and four is the best that can be said.
+// Two different valid blocks of bytes differ in at least four of their 136 bits. There are two that differ in just
+// four: so no theorem here speaks of nothing, and four is the best that can be said.
 pub fn valid_blocks_lie_four_bits_apart()
     ensures apart { λ _. ⌜ ((C : List ℕ) → length C ≡ 17 → Bytes C → (B : List ℕ) → Bytes B
         → Valid B → Valid C → (B ≡ C → ⊥) → 4 ≤ distance B C) ⌝ }

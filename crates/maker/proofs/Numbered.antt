@@ -1,5 +1,5 @@
--- The maker's number at each answer, what it tells and leaves by its number, and that it is told in one way. Assumes
--- nothing.
+-- The maker's number at each answer, what it tells and leaves by its number, and that it is told in one way.
+-- Assumes nothing.
 use mathlib.Core.Path.{_≡_, refl, sym, ap, _∙_}
 use mathlib.Core.Bool.{cond}
 use mathlib.Core.List.{List, [], _∷_, _++_}

@@ -1,13 +1,12 @@
 // The reader of blocks (01, "Judging", "Numbers given"; 001, section 5-3-4).
 //
-// `mend` judges a lent block in place: clean, mended with the bit that it changed, repeat, or a wrong length. `judge`
-// is `mend` in the form that 01 names: it hands back the first fifteen bytes of the lent block itself.
-// specs/Judging says what each call tells and leaves, for any bytes; nothing is asked of a caller. The judge is
-// promised the long way round (no change, then each mendable bit in turn) and finds its bit the short way, by the
-// remainder and the one byte of odd parity. proofs/Verdicts is the one door by which any judge is shown to be right,
-// and has demand 3.
+// `mend` judges a lent block in place: clean, mended with the bit that it changed, repeat, or a wrong length.
+// specs/Judging says what it tells and leaves, for any bytes; nothing is asked of a caller. It is promised the long
+// way round (no change, then each mendable bit in turn) and finds its bit the short way, by the remainder and the
+// one byte of odd parity. proofs/Verdicts is the one door by which any judge is shown to be right, and has demand
+// 3.
 ghost use mathlib.Core.Path.{_≡_};
-ghost use Rattle.reader.specs.Judging.{judged, left, handed, bitNamed, told};
+ghost use Rattle.reader.specs.Judging.{judged, left, told};
 
 pub enum Verdict {
     Clean,
@@ -48,37 +47,4 @@ pub fn mend(block: &mut [u8]) -> Verdict
     }
     validity::flip(block, k as usize);
     Verdict::Mended(k)
-}
-
-// A block judged, of any length: the first fifteen bytes of the lent block itself, or an empty part. `said` gets
-// the number, `bit` the bit mended or 255 for none.
-pub fn judge<'a>(block: &'a mut [u8], said: &mut u8, bit: &mut u8) -> &'a mut [u8]
-    ensures { λ r. ⌜ (now (said .exit) ≡ judged (now (block .entry)) .number)
-        × (now (bit .exit) ≡ bitNamed (judged (now (block .entry))))
-        × (now r ≡ handed (now (block .entry)))
-        × (r .ptr ≡ block .entry .ptr) ⌝ }
-{
-    let v = mend(block);
-    match v {
-        Verdict::Clean => {
-            *said = 0;
-            *bit = 255;
-            &mut block[..15]
-        }
-        Verdict::Mended(b) => {
-            *said = 0;
-            *bit = b;
-            &mut block[..15]
-        }
-        Verdict::Repeat => {
-            *said = 3;
-            *bit = 255;
-            &mut block[..0]
-        }
-        Verdict::WrongLength => {
-            *said = 1;
-            *bit = 255;
-            &mut block[..0]
-        }
-    }
 }

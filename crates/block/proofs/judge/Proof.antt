@@ -1,4 +1,4 @@
--- `reader::judge` meets its contract: it is `mend` and a part of what `mend` leaves. Assumes nothing.
+-- `block::judge` meets its contract: it is `mend` and a part of what `mend` leaves. Assumes nothing.
 use mathlib.Core.Path.{_≡_, refl, sym, ap, _∙_}
 use mathlib.Core.List.{List}
 use Prim.Native.Nat.{ℕ}
@@ -7,12 +7,12 @@ use lib.ListN.{length, take}
 use lib.Seq.{length-take-le}
 use borrow.Author.Needs.{needs}
 use Rattle.numbers.specs.Numbers.{Told}
 use Rattle.reader.specs.declared.Verdict.{Verdict}
 use Rattle.reader.specs.declared.Verdict.the-variants.{Clean, Mended, Repeat, WrongLength}
 use Rattle.reader.specs.Judging.{told, judged, bitNamed, handedBy, handed}
 use Rattle.reader.proofs.Handed.{handed-as, clean-long, mended-long}
-use Rattle.reader.proofs.judge.Statement.{statement}
-use Rattle.reader.proofs.judge.Tie as tie
+use Rattle.block.proofs.judge.Statement.{statement}
+use Rattle.block.proofs.judge.Tie as tie
 
 was : tie.After-mend → List ℕ
 was m = m .before .before .before .args .block .now
