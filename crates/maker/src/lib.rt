@@ -50,7 +50,7 @@ fn seal(out: &mut [u8])
     out[16] = 0;
 }
 
-// The lowest place of a value above 127, or the number of values.
+// The lowest place of a value above 127, or the number of values. `left` counts those not looked at yet.
 fn first_large(values: &[u8]) -> usize
     ensures { λ r. ⌜ r ≡ firstLarge (now (values .entry)) ⌝ }
 {

@@ -11,7 +11,7 @@ use crate::words::write_bytes;
 use bytes::scan::find;
 use maker::Made;
 
-// Answers a command of this family, or says that the line is none.
+// Answers a command of this family, up to the end of the line, or says that the line is none.
 pub(crate) fn obey(line: &[u8]) -> bool {
     let n = line.len();
     let e = find(line, 0, n, b' ');
@@ -64,7 +64,6 @@ fn make(words: &[u8]) -> bool {
     let made = block::make(first(&given, count), first_mut(&mut lent, room));
     write_made(made);
     write_bytes(first(&lent, room));
-    io::write_all(1, b"\n");
     true
 }
 
@@ -98,6 +97,5 @@ fn judge(word: &[u8]) -> bool {
     write_verdict(said, bit);
     write_bytes(first(&lent, n));
     write_bytes(first(&kept, k));
-    io::write_all(1, b"\n");
     true
 }

@@ -20,6 +20,7 @@ fn run(fd: i32, name: &[u8]) {
     let mut at = At {
         length: 0,
         number: 1,
+        stopped: false,
     };
     let mut portion = io::large_buffer();
     let mut turns = u64::MAX;
@@ -30,11 +31,17 @@ fn run(fd: i32, name: &[u8]) {
             return;
         }
         if got == 0 {
-            lines::end(at, &line);
+            if !lines::end(at, &line) {
+                os::fail(b"standard output");
+            }
             return;
         }
         let n = io::count(got, &portion);
         at = lines::feed(at, &portion[..n], &mut line);
+        if at.stopped {
+            os::fail(b"standard output");
+            return;
+        }
         turns -= 1;
     }
 }
