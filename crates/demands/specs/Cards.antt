@@ -24,10 +24,10 @@ EachHolds (c ∷ cs) = Holds c × EachHolds cs
 abbrev pub zeros : ℕ → List ℕ
 zeros n = replicate n 0
 
--- byte 16 of W2 follows the order of section 5-1-3: see docs/SOURCES.md
 abbrev pub w1 : List ℕ
 w1 = zeros 17
 
+-- byte 16 follows the order of section 5-1-3: see docs/SOURCES.md
 abbrev pub w2 : List ℕ
 w2 = zeros 14 ++ (192 ∷ 27 ∷ 0 ∷ [])
 

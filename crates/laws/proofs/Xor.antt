@@ -19,7 +19,7 @@ differ-assoc (suc zero) (suc zero) (suc (suc z)) hx hy hz = absurd (omega (arith
 differ-assoc (suc zero) (suc (suc y)) z hx hy hz = absurd (omega (arith, hy))
 differ-assoc (suc (suc x)) y z hx hy hz = absurd (omega (arith, hx))
 
-digit-xor : (x y : ℕ) → x < 2 → y < 2 → bitXor x y ≡ differ x y
+pub digit-xor : (x y : ℕ) → x < 2 → y < 2 → bitXor x y ≡ differ x y
 digit-xor zero y hx hy = refl
 digit-xor (suc zero) zero hx hy = refl
 digit-xor (suc zero) (suc zero) hx hy = refl

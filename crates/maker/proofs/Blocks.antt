@@ -2,7 +2,7 @@
 -- Assumes nothing.
 use mathlib.Core.Path.{_≡_, refl, sym, ap, ap₂, _∙_, subst, subst⁻¹}
 use mathlib.Core.Bool.{true}
-use mathlib.Core.List.{List, [], _∷_, _++_, map, append-assoc}
+use mathlib.Core.List.{List, [], _∷_, _++_, map, append-assoc, append-nil}
 use Prim.Native.Nat.{ℕ, zero, suc, _+_, _-_, _%_, _≤_, _<_, suc-le-suc}
 use native.Mathlib.Nat.{zero-lt-suc, le-of-suc-le-suc}
 use native.Mathlib.Omega.{arith}
@@ -147,11 +147,7 @@ full : (U : List ℕ) → length U ≡ 15 → Bytes U → T (allEven U) → usef
 unfolding useful
 full U l f t =
     let e : 15 - length (map (λ (b : ℕ). b % 128) U) ≡ 0 = simp length-map (omega arith) in
-    ap₂ (λ (a : List ℕ) (n : ℕ). a ++ replicate n 0) (parity-on U f t) e ∙ append-none U
-  where
-    append-none : (A : List ℕ) → A ++ [] ≡ A
-    append-none [] = refl
-    append-none (a ∷ A) = ap (λ (r : List ℕ). a ∷ r) (append-none A)
+    ap₂ (λ (a : List ℕ) (n : ℕ). a ++ replicate n 0) (parity-on U f t) e ∙ append-nil U
 
 module _ (B : List ℕ) (b : Bytes B) (v : Valid B) where
   l : length B ≡ 17

@@ -13,7 +13,7 @@ pub record Conditions : Type 0 where
   pub noRoom : Bool
   pub repeat : Bool
 
--- "Order where several hold: 1, 5, 2, 4, 3"; 0 "where none of the others holds"
+-- "Order where several hold: 1, 5, 2, 4, 3"; 0 where "none of the others holds"
 abbrev pub numberOf : Conditions → ℕ
 numberOf c =
     cond (c .wrongLength) 1

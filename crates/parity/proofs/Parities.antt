@@ -10,9 +10,9 @@ use native.Mathlib.Omega.{arith}
 use lib.ListN.{length, getD, drop, drop-of-length-le}
 use lib.Seq.{drop-cons}
 use lib.Dec.{T, eqb, eqb→eq}
-use lib.Bits.{bitXor, differ}
+use lib.Bits.{bitXor}
 use Rattle.laws.proofs.Computed.{below, at, and-left, and-right}
-use Rattle.laws.proofs.Xor.{xor-odd, digit-sum}
+use Rattle.laws.proofs.Xor.{digit-xor, digit-sum}
 use Rattle.laws.proofs.Sums.{Sum, none, more}
 use Rattle.division.specs.Division.{lowBits, bits}
 use Rattle.division.specs.Polynomials.{Digits}
@@ -26,21 +26,8 @@ par d x y u s t p q =
     let e : (x + y) + (s + t) ≡ (x + s) + (y + t) = omega arith in
     add-mod d u 2 ∙ ap₂ (λ (i j : ℕ). (i + j) % 2) p q ∙ sym (add-mod (x + y) (s + t) 2) ∙ ap (λ (i : ℕ). i % 2) e
 
-same-digit : (x : ℕ) → x < 2 → x % 2 ≡ x
-same-digit x h = omega arith
-
 digits-xor : (x y : ℕ) → x < 2 → y < 2 → bitXor x y % 2 ≡ (x + y) % 2
-digits-xor x y h k =
-    xor-odd x y ∙ ap₂ differ (same-digit x h) (same-digit y k) ∙ sym (small-differ x y h k) ∙ digit-sum x y h k
-  where
-    small-differ : (x y : ℕ) → x < 2 → y < 2 → differ x y % 2 ≡ differ x y
-    small-differ zero zero h k = refl
-    small-differ zero (suc zero) h k = refl
-    small-differ zero (suc (suc y)) h k = absurd (omega (arith, k))
-    small-differ (suc zero) zero h k = refl
-    small-differ (suc zero) (suc zero) h k = refl
-    small-differ (suc zero) (suc (suc y)) h k = absurd (omega (arith, k))
-    small-differ (suc (suc x)) y h k = absurd (omega (arith, h))
+digits-xor x y h k = ap (λ (n : ℕ). n % 2) (digit-xor x y h k) ∙ digit-sum x y h k
 
 pub ones-sum : {xs ys zs : List ℕ} → Sum xs ys zs → Digits xs → Digits ys → ones zs % 2 ≡ (ones xs + ones ys) % 2
 unfolding ones

@@ -20,7 +20,8 @@ use Rattle.validity.proofs.Validity.{valid-length}
 use Rattle.validity.proofs.Alone.{flipped-length, hit-once, hit-twice, hit-thrice, one-place}
 use Rattle.reader.specs.declared.Verdict.{Verdict}
 use Rattle.reader.specs.declared.Verdict.the-variants.{Clean, Mended, Repeat, WrongLength}
-use Rattle.reader.specs.Judging.{mendable, tryFrom, verdict, told, judged, leftBy, left, oneMends, judgeConditions}
+use Rattle.reader.specs.Judging.{mendable, tryFrom, verdict, told, judged, leftBy, left}
+use Rattle.reader.specs.Judging.{oneMends, judgeConditions}
 use Rattle.reader.specs.Claims.{NoneNear, Right, OnlyNear}
 
 -- ---- the search finds the first bit that mends, if there is one

@@ -6,7 +6,8 @@ use Rattle.trial.proofs.run.Statement.{statement}
 use Rattle.trial.proofs.run.Tie as tie
 
 abbrev Inv-loop : tie.InvT-loop
-Inv-loop fd name line₀ at₀ portion₀ turns₀ t9 t10 line at portion turns = (length line ≡ 9000) × (length portion ≡ 65536)
+Inv-loop fd name line₀ at₀ portion₀ turns₀ t9 t10 line at portion turns =
+    (length line ≡ 9000) × (length portion ≡ 65536)
 
 abbrev μ-loop : tie.MeasureT-loop
 μ-loop fd name line₀ at₀ portion₀ turns₀ t9 t10 line at portion turns = turns
