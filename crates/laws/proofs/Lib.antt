@@ -1,3 +1,4 @@
 pub mod Computed
 pub mod Xor
 pub mod Sums
+pub mod Lists

@@ -4,10 +4,10 @@ use mathlib.Core.Path.{_≡_, refl, sym, ap, ap₂, _∙_, subst, subst⁻¹}
 use mathlib.Core.Bool.{true}
 use mathlib.Core.List.{List, [], _∷_, _++_, map, append-assoc, append-nil}
 use Prim.Native.Nat.{ℕ, zero, suc, _+_, _-_, _%_, _≤_, _<_, suc-le-suc}
-use native.Mathlib.Nat.{zero-lt-suc, le-of-suc-le-suc}
+use native.Mathlib.Nat.{mod-lt, zero-lt-suc, not-suc-le-zero, le-of-suc-le-suc}
 use native.Mathlib.Omega.{arith}
 use lib.Dec.{T}
-use lib.ListN.{length, getD, take, replicate, length-append, length-map, length-replicate}
+use lib.ListN.{length, getD, take, replicate, length-append, length-map, length-replicate, List·getD-map}
 use lib.Seq.{take-at, take-suc, take-all, getD-at, getD-take, length-take-le}
 use lib.Bits.{bitXor, xor-self}
 use Rattle.laws.proofs.Computed.{and-left, and-right, both, is-true}
@@ -132,6 +132,23 @@ unfolding useful
 values-back vs h f =
     ap (map (λ (b : ℕ). b % 128)) (made-useful vs h) ∙ off-values vs (replicate (15 - length vs) 0) f
     ∙ ap (λ (l : List ℕ). vs ++ l) (off-zeros (15 - length vs))
+
+-- ---- the values of any block
+
+pub values-length : (B : List ℕ) → length B ≡ 17 → length (valuesOf B) ≡ 15
+values-length B l = length-map (take 15 B) (λ (b : ℕ). b % 128) ∙ length-take-le 15 B (omega arith)
+
+pub value-at : (B : List ℕ) (i : ℕ) → i < 15 → getD (valuesOf B) i 0 ≡ getD B i 0 % 128
+value-at B i h =
+    List·getD-map (λ (b : ℕ). b % 128) (take 15 B) i 0 ∙ ap (λ (b : ℕ). b % 128) (getD-take 15 B i 0 h)
+
+low-values : (A : List ℕ) → Values (map (λ (b : ℕ). b % 128) A)
+low-values [] i h = absurd (not-suc-le-zero h)
+low-values (a ∷ A) zero h = mod-lt a (zero-lt-suc 127)
+low-values (a ∷ A) (suc i) h = low-values A i (le-of-suc-le-suc h)
+
+pub values-low : (B : List ℕ) → Values (valuesOf B)
+values-low B = low-values (take 15 B)
 
 -- ---- a valid block of bytes is what the maker writes
 

@@ -6,7 +6,7 @@ use native.Mathlib.Nat.{not-suc-le-zero, le-of-suc-le-suc}
 use native.Mathlib.Numerals.{add-one}
 use native.Mathlib.Omega.{arith}
 use lib.ListN.{length, getD, take, drop, set, replicate}
-use lib.Seq.{take-suc, drop-cons, set-at, length-take-le, append-snoc, sets-eq, take-at, drop-at, drop-drop}
+use lib.Seq.{sets-eq, take-at, drop-at, drop-drop}
 use Rattle.division.specs.Division.{checkBits}
 use Rattle.parity.specs.Parity.{withParity}
 use Rattle.maker.specs.Making.{useful, sealed, blockOf}
@@ -38,16 +38,6 @@ unfolding useful
 useful-past vs i h = map-past vs (15 - length vs) i h
 
 -- ---- stores
-
--- one more place of O holds what U has there
-pub put : (U O : List ℕ) (i : ℕ) → i < length U → i < length O
-    → set (take i U ++ drop i O) i (getD U i 0) ≡ take (i + 1) U ++ drop (i + 1) O
-put U O i h k =
-    ap (λ (l : List ℕ). set (take i U ++ l) i (getD U i 0)) (drop-cons O i 0 k)
-    ∙ set-at (take i U) (getD O i 0) (drop (suc i) O) (getD U i 0) i (length-take-le i U (omega arith))
-    ∙ sym (append-snoc (take i U) (getD U i 0) (drop (suc i) O))
-    ∙ ap (λ (l : List ℕ). l ++ drop (suc i) O) (sym (take-suc U i 0 h))
-    ∙ ap (λ (n : ℕ). take n U ++ drop n O) (sym (add-one i))
 
 pub seal-stores : (O : List ℕ) → 17 ≤ length O
     → set (set O 15 (withParity (checkBits (take 15 O)))) 16 0 ≡ sealed (take 15 O) ++ drop 17 O

@@ -6,9 +6,9 @@ use Prim.Native.Nat.{ℕ, _-_, _≤_}
 use native.Mathlib.Omega.{arith}
 use lib.ListN.{length, take, drop, set, length-set}
 use lib.Seq.{take-all}
+use Rattle.laws.proofs.Lists.{put}
 use Rattle.maker.specs.Making.{useful}
 use Rattle.maker.proofs.Blocks.{useful-length}
-use Rattle.maker.proofs.Written.{put}
 use Rattle.maker.proofs.fill.Statement.{statement}
 use Rattle.maker.proofs.fill.Tie as tie
 
@@ -44,7 +44,7 @@ loop-again c =
     let n : length u ≡ 15 = useful-length (s .args .values .now) (s .pre .0) in (
       omega arith,
       ap₂ (λ (x : List ℕ) (y : ℕ). set x i y) (l .loop .inv .1) (c .useful-at .ensures)
-          ∙ put u o i (omega arith) (omega arith),
+          ∙ put u o i 0 (omega arith) (omega arith),
       length-set (l .loop .out) i (c .useful-at .result) ∙ l .loop .inv .2,
     )
 

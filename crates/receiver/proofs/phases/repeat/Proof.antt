@@ -1,0 +1,20 @@
+-- `receiver::phases::repeat` meets its contract. Assumes nothing.
+use mathlib.Core.Path.{ap, sym, subst⁻¹}
+use Prim.Native.Nat.{ℕ, _<_}
+use Rattle.receiver.specs.declared.Receiver.{Receiver}
+use borrow.Author.Needs.{needs}
+use Rattle.receiver.proofs.phases.repeat.Statement.{statement}
+use Rattle.receiver.proofs.phases.repeat.Tie as tie
+
+emptied-requires : tie.Need-emptied-requires
+emptied-requires c κs = search needs
+
+ask-requires : tie.Need-ask-requires
+ask-requires c κs =
+    subst⁻¹ (λ (r : Receiver). r .number < 16) (c .emptied .ensures) (c .before .pre)
+
+returns : tie.Need-returns
+returns c = simp (c .ask .ensures, c .before .emptied .ensures)
+
+pub repeat-spec : {M : Type 1} → statement M
+repeat-spec = tie.close (tie.spec emptied-requires ask-requires returns)

@@ -1,0 +1,155 @@
+-- What each call does to a receiver, and all that goes out (01, "The receiver"). Assumes nothing.
+use Prim.Native.Nat.{ℕ, _+_, _-_, _%_}
+use mathlib.Core.Bool.{Bool, true, false, cond, _&&_}
+use mathlib.Core.List.{List, [], _∷_, _++_}
+use lib.Dec.{ltb, eqb}
+use lib.ListN.{length, set, replicate}
+use Rattle.parity.specs.Parity.{even, withParity}
+use Rattle.maker.specs.Making.{valuesOf}
+use Rattle.reader.specs.declared.Verdict.{Verdict}
+use Rattle.reader.specs.declared.Verdict.the-variants.{Clean, Mended, Repeat, WrongLength}
+use Rattle.reader.specs.Judging.{verdict, left}
+use Rattle.receiver.specs.declared.Phase.{Phase}
+use Rattle.receiver.specs.declared.Phase.the-variants.{Off, Collecting, Waiting}
+use Rattle.receiver.specs.declared.Receiver.{Receiver}
+use Rattle.receiver.specs.declared.Judged.{Judged}
+use Rattle.receiver.specs.declared.Judged.the-variants.{Nothing, Block}
+use Rattle.receiver.specs.declared.Stepped.{Stepped}
+use Rattle.receiver.specs.States.{inRange, emptied}
+
+-- ---- codes (001, sections 5-3-5 and 5-3-6); that they carry parity is a theorem
+
+-- SYN (1/6) with parity
+abbrev pub syn : ℕ
+syn = 150
+
+-- NACK (1/5) with parity
+abbrev pub nack : ℕ
+nack = 149
+
+-- 4/X with parity
+abbrev pub four : ℕ → ℕ
+four x = withParity (64 + x)
+
+-- "the request NACK (1/5), 4/X .., both with parity"
+abbrev pub request : ℕ → List ℕ
+request x = nack ∷ four x ∷ []
+
+-- ---- what a call hands back
+
+-- values in an array of n: the places past them are 0
+abbrev pub padded : ℕ → List ℕ → List ℕ
+padded n vs = vs ++ replicate (n - length vs) 0
+
+-- the answer, the next state, the values passed on, the bytes for the modem and what was judged
+abbrev pub giving : ℕ → Receiver → List ℕ → List ℕ → Judged → Stepped
+giving answer next vs qs j =
+    record {
+      next = next;
+      answer = answer;
+      values = padded 15 vs;
+      passed = length vs;
+      request = padded 2 qs;
+      asked = length qs;
+      judged = j;
+    }
+
+-- nothing goes out
+abbrev pub silent : Receiver → Stepped
+silent r = giving 0 r [] [] Nothing
+
+-- "broken state .. that state handed back"
+abbrev pub refused : Receiver → Stepped
+refused r = giving 5 r [] [] Nothing
+
+-- one value passes
+abbrev pub passing : Receiver → ℕ → Stepped
+passing r v = giving 0 r (v ∷ []) [] Nothing
+
+-- ---- off
+
+-- "each byte is passed on with parity removed; a byte of odd parity passes as 7/F"
+abbrev pub plainly : ℕ → ℕ
+plainly b = cond (even b) (b % 128) 127
+
+-- ---- collecting
+
+-- "the byte is held"
+abbrev pub holding : Receiver → ℕ → Receiver
+holding r b =
+    record { held = set (r .held) (r .count) b; count = r .count + 1; number = r .number; phase = r .phase }
+
+-- the seventeen bytes: those held, and the last
+abbrev pub whole : Receiver → ℕ → List ℕ
+whole r b = set (r .held) 16 b
+
+-- "Clean or mended: its fifteen values are passed on without parity, the number rises by one (15 becomes 0) and
+-- nothing is held"
+abbrev pub accepted : ℕ → List ℕ → Verdict → Stepped
+accepted x vs v = giving 0 (emptied ((x + 1) % 16) Collecting) vs [] (Block v)
+
+-- "Repeat: nothing is passed on; the request .. goes to the modem .., X being the unchanged number; phase waiting,
+-- nothing held or seen"
+abbrev pub repeated : ℕ → Verdict → Stepped
+repeated x v = giving 0 (emptied x (Waiting 0)) [] (request x) (Block v)
+
+-- "clean or mended" (a held block has seventeen bytes, so its length is never wrong)
+abbrev pub accepts : Verdict → Bool
+accepts Clean = true
+accepts (Mended k) = true
+accepts Repeat = false
+accepts WrongLength = false
+
+-- "At the 17th the block is judged"
+abbrev pub judgedAs : Verdict → ℕ → List ℕ → Stepped
+judgedAs v x vs = cond (accepts v) (accepted x vs v) (repeated x v)
+
+abbrev pub judgedHeld : Receiver → ℕ → Stepped
+judgedHeld r b = judgedAs (verdict (whole r b)) (r .number) (valuesOf (left (whole r b)))
+
+abbrev pub collecting : Receiver → ℕ → Stepped
+collecting r b = cond (ltb (r .count) 16) (silent (holding r b)) (judgedHeld r b)
+
+-- ---- waiting
+
+-- n synchronising codes seen
+abbrev pub waiting : Receiver → ℕ → Receiver
+waiting r n = record { held = r .held; count = r .count; number = r .number; phase = Waiting n }
+
+-- a SYN more: two at most count
+abbrev pub oneMore : ℕ → ℕ
+oneMore n = cond (ltb n 2) (n + 1) 2
+
+-- "bytes are dropped until the last three since entering this phase are SYN (1/6), SYN, 4/X with parity. Then
+-- collecting, nothing held or seen"
+abbrev pub listening : Receiver → ℕ → ℕ → Receiver
+listening r n b =
+    cond (eqb b syn) (waiting r (oneMore n))
+    (cond (eqb n 2 && eqb b (four (r .number))) (emptied (r .number) Collecting) (waiting r 0))
+
+-- ---- the four calls
+
+abbrev pub byPhase : Phase → Receiver → ℕ → Stepped
+byPhase Off r b = passing r (plainly b)
+byPhase Collecting r b = collecting r b
+byPhase (Waiting n) r b = silent (listening r n b)
+
+abbrev pub stepped : Receiver → ℕ → Stepped
+stepped r b = cond (inRange r) (byPhase (r .phase) r b) (refused r)
+
+-- "Switched on: collecting, number 0, nothing held or seen", "also when already on"
+abbrev pub switchedOn : Receiver → Stepped
+switchedOn r = cond (inRange r) (silent (emptied 0 Collecting)) (refused r)
+
+-- "Switching off, from any phase, gives off, number 0, nothing held or seen"
+abbrev pub switchedOff : Receiver → Stepped
+switchedOff r = cond (inRange r) (silent (emptied 0 Off)) (refused r)
+
+-- "in waiting it gives the same two request bytes and changes nothing; elsewhere it gives none"
+abbrev pub againBy : Phase → Receiver → Stepped
+againBy Off r = silent r
+againBy Collecting r = silent r
+againBy (Waiting n) r = giving 0 r [] (request (r .number)) Nothing
+
+abbrev pub askedAgain : Receiver → Stepped
+askedAgain r = cond (inRange r) (againBy (r .phase) r) (refused r)
