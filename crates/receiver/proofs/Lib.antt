@@ -1,2 +1,12 @@
 pub mod Ranges
 pub mod Cases
+pub mod Shape
+pub mod Kept
+pub mod Outgoing
+pub mod Counted
+pub mod Asked
+pub mod Seen
+pub mod Followed
+pub mod Once
+pub mod Waits
+pub mod Past

@@ -1,2 +1,5 @@
 pub mod States
 pub mod Calls
+pub mod Runs
+pub mod Page
+pub mod Alike

@@ -1,0 +1,204 @@
+-- A receiver in range follows the page at every event of every run. Assumes nothing.
+use mathlib.Core.Path.{_≡_, refl, sym, ap, ap₂, _∙_, subst, subst⁻¹}
+use mathlib.Core.Bool.{Bool, true, false, cond}
+use mathlib.Core.List.{List, [], _∷_, _++_}
+use Prim.Native.Nat.{ℕ, _+_, _%_, _<_}
+use native.Mathlib.Omega.{arith}
+use lib.Dec.{eqb}
+use lib.ListN.{length, take, replicate, length-append}
+use lib.Seq.{length-take-le}
+use borrow.Author.Tests.{eq-eqb, ne-eqb}
+use Rattle.laws.proofs.Computed.{fails, holds}
+use Rattle.maker.specs.Making.{valuesOf}
+use Rattle.reader.specs.declared.Verdict.{Verdict}
+use Rattle.reader.specs.declared.Verdict.the-variants.{Repeat}
+use Rattle.reader.specs.Judging.{verdict}
+use Rattle.reader.specs.Claims.{NoneNear, OnlyNear}
+use Rattle.receiver.specs.declared.Phase.{Phase}
+use Rattle.receiver.specs.declared.Phase.the-variants.{Off, Collecting, Waiting}
+use Rattle.receiver.specs.declared.Receiver.{Receiver}
+use Rattle.receiver.specs.declared.Judged.the-variants.{Nothing, Block}
+use Rattle.receiver.specs.declared.Stepped.{Stepped}
+use Rattle.receiver.specs.States.{InRange, emptied}
+use Rattle.receiver.specs.Calls.{syn, four, silent, holding, oneMore, askedAgain, stepped}
+use Rattle.receiver.specs.Runs.{Event, byte, on, off, ask, obey, run, Sent, sentBy, sent}
+use Rattle.receiver.specs.Page.{
+  nothing, passes, asks, Stand, idle, midway, awaiting, Ends, Says, plain, held, taken, refused, dropped, resumed, again,
+  midwayAsk, idleAsk, switchedOn, switchedOff, Course, done, next, standIn, standOf, Stands
+}
+use Rattle.receiver.proofs.Ranges.{number-in, count-in, seen-in}
+use Rattle.receiver.proofs.Cases.{again-in}
+use Rattle.receiver.proofs.Shape as shapes
+use Rattle.receiver.proofs.Shape.{Shape, shape, arrived, grown}
+use Rattle.receiver.proofs.Kept.{on-afresh, off-afresh, keeps}
+use Rattle.receiver.proofs.Outgoing.{sent-accepted}
+use Rattle.receiver.proofs.Seen.{seenAfter, seenIn, seen-snoc, seen-syns, syn-four, ends-last, last-ends}
+
+-- ---- a phase is one phase
+
+abbrev pub kind : Phase → ℕ
+kind Off = 0
+kind Collecting = 1
+kind (Waiting n) = 2
+
+pub other-phase : {A : Type 0} {p : Phase} (q s : Phase) → p ≡ q → p ≡ s → eqb (kind q) (kind s) ≡ false → A
+other-phase q s e f ne = absurd (fails ne (holds (eq-eqb (kind q) (kind s) (ap kind (sym e ∙ f)))))
+
+seenOf : Phase → ℕ
+seenOf Off = 0
+seenOf Collecting = 0
+seenOf (Waiting n) = n
+
+pub same-seen : {n m : ℕ} → Waiting n ≡ Waiting m → n ≡ m
+unfolding seenOf
+same-seen e = ap seenOf e
+
+-- ---- where a receiver stands
+
+-- as `Stands`, and the codes seen are those at the end of the bytes
+abbrev pub At : Receiver → Stand → Type 0
+At r idle = r .phase ≡ Off
+At r (midway x h) =
+    (r .phase ≡ Collecting) × (r .number ≡ x) × (r .count ≡ length h) × (take (r .count) (r .held) ≡ h)
+At r (awaiting x ws) = (r .phase ≡ Waiting (seenIn ws)) × (r .number ≡ x)
+
+at-stands : (r : Receiver) (s : Stand) → At r s → Stands r s
+at-stands r idle a = a
+at-stands r (midway x h) a = a
+at-stands r (awaiting x ws) a = ((seenIn ws, a .0), a .1)
+
+stands-in : (r : Receiver) (p : Phase) → InRange r → r .phase ≡ p → At r (standIn p r)
+stands-in r Off g f = f
+stands-in r Collecting g f =
+    (f, refl, sym (length-take-le (r .count) (r .held) (let h : r .count < 17 = count-in r (g .range) in omega (arith, g .array))), refl)
+stands-in r (Waiting n) g f = (f ∙ ap Waiting (sym (seen-syns n (seen-in r (g .range) n f))), refl)
+
+pub stands-at : (r : Receiver) → InRange r → At r (standOf r)
+stands-at r g = stands-in r (r .phase) g refl
+
+-- ---- one byte
+
+-- a rule sends what the call sends, and the receiver stands where the rule says
+abbrev pub Followed : Stand → Event → Stepped → Type 0
+Followed s e c = (t : Stand) × Says s e (sentBy c) t × At (c .next) t
+
+from-idle : (r : Receiver) (b : ℕ) → At r idle → {c : Stepped} → Shape r b c → Followed idle (byte b) c
+from-idle r b a (shapes.plain f) = (idle, plain, a)
+from-idle r b a (shapes.more f k) = other-phase Collecting Off f a refl
+from-idle r b a (shapes.took f k C o) = other-phase Collecting Off f a refl
+from-idle r b a (shapes.none f k o) = other-phase Collecting Off f a refl
+from-idle r b a (shapes.heard n f e) = other-phase (Waiting n) Off f a refl
+from-idle r b a (shapes.resumed f e) = other-phase (Waiting 2) Off f a refl
+from-idle r b a (shapes.dropped n f ne nf) = other-phase (Waiting n) Off f a refl
+
+-- the bytes of the stretch with one more, at the seventeenth
+arrived-is : (r : Receiver) (b : ℕ) (h : List ℕ) → take (r .count) (r .held) ≡ h → r .count ≡ 16
+    → arrived r b ≡ h ++ (b ∷ [])
+arrived-is r b h e k =
+    ap (λ (l : List ℕ). l ++ (b ∷ [])) (ap (λ (n : ℕ). take n (r .held)) (sym k) ∙ e)
+
+from-midway : (r : Receiver) (b x : ℕ) (h : List ℕ) → InRange r → At r (midway x h) → {c : Stepped} → Shape r b c
+    → Followed (midway x h) (byte b) c
+from-midway r b x h g a (shapes.plain f) = other-phase Off Collecting f (a .0) refl
+from-midway r b x h g a (shapes.more f k) = (
+  midway x (h ++ (b ∷ [])),
+  held {h = h} (omega (arith, a .2)),
+  (
+    a .0,
+    a .1,
+    ap (λ (n : ℕ). n + 1) (a .2) ∙ sym (length-append h (b ∷ [])),
+    grown (r .held) (r .count) b (omega (arith, g .array)) ∙ ap (λ (l : List ℕ). l ++ (b ∷ [])) (a .3),
+  ),
+)
+from-midway r b x h g a (shapes.took f k C o) =
+    let e : arrived r b ≡ h ++ (b ∷ []) = arrived-is r b h (a .3) k in (
+      midway ((x + 1) % 16) [],
+      subst⁻¹ (λ (s : Sent). Says (midway x h) (byte b) s (midway ((x + 1) % 16) []))
+          (sent-accepted (r .number) (valuesOf C) (verdict (arrived r b))
+          ∙ ap (λ (B : List ℕ). passes (valuesOf C) (Block (verdict B))) e)
+          (taken (sym (a .2) ∙ k) (subst (λ (B : List ℕ). OnlyNear B C) e o)),
+      (refl, ap (λ (n : ℕ). (n + 1) % 16) (a .1), refl, refl),
+    )
+from-midway r b x h g a (shapes.none f k o) = (
+  awaiting x [],
+  subst⁻¹ (λ (n : ℕ). Says (midway x h) (byte b) (asks n (Block Repeat)) (awaiting x [])) (a .1)
+      (refused (sym (a .2) ∙ k) (subst NoneNear (arrived-is r b h (a .3) k) o)),
+  (ap Waiting (sym (seen-syns 0 (omega arith))), a .1),
+)
+from-midway r b x h g a (shapes.heard n f e) = other-phase (Waiting n) Collecting f (a .0) refl
+from-midway r b x h g a (shapes.resumed f e) = other-phase (Waiting 2) Collecting f (a .0) refl
+from-midway r b x h g a (shapes.dropped n f ne nf) = other-phase (Waiting n) Collecting f (a .0) refl
+
+from-awaiting : (r : Receiver) (b x : ℕ) (ws : List ℕ) → InRange r → At r (awaiting x ws) → {c : Stepped}
+    → Shape r b c → Followed (awaiting x ws) (byte b) c
+from-awaiting r b x ws g a (shapes.plain f) = other-phase Off (Waiting (seenIn ws)) f (a .0) refl
+from-awaiting r b x ws g a (shapes.more f k) = other-phase Collecting (Waiting (seenIn ws)) f (a .0) refl
+from-awaiting r b x ws g a (shapes.took f k C o) = other-phase Collecting (Waiting (seenIn ws)) f (a .0) refl
+from-awaiting r b x ws g a (shapes.none f k o) = other-phase Collecting (Waiting (seenIn ws)) f (a .0) refl
+from-awaiting r b x ws g a (shapes.heard n f e) =
+    let lt : x < 16 = subst (λ (m : ℕ). m < 16) (a .1) (number-in r (g .range)) in (
+      awaiting x (ws ++ (b ∷ [])),
+      dropped (λ d. syn-four x lt (sym e ∙ ends-last x ws b d .1)),
+      (
+        ap Waiting
+            (ap oneMore (same-seen (sym f ∙ a .0))
+            ∙ ap (λ (t : Bool). cond t (oneMore (seenIn ws)) 0) (sym (eq-eqb b syn e))
+            ∙ sym (seen-snoc ws b)),
+        a .1,
+      ),
+    )
+from-awaiting r b x ws g a (shapes.resumed f e) = (
+  midway x [],
+  resumed (last-ends x ws b (same-seen (sym (a .0) ∙ f)) (e ∙ ap four (a .1))),
+  (refl, a .1, refl, refl),
+)
+from-awaiting r b x ws g a (shapes.dropped n f ne nf) = (
+  awaiting x (ws ++ (b ∷ [])),
+  dropped (λ d. let p = ends-last x ws b d in
+      nf (same-seen (sym f ∙ a .0) ∙ p .0) (p .1 ∙ ap four (sym (a .1)))),
+  (
+    ap Waiting
+        (ap (λ (t : Bool). cond t (oneMore (seenIn ws)) 0) (sym (ne-eqb b syn ne)) ∙ sym (seen-snoc ws b)),
+    a .1,
+  ),
+)
+
+-- ---- any event
+
+byte-follows : (r : Receiver) (b : ℕ) (s : Stand) → InRange r → At r s → Followed s (byte b) (stepped r b)
+byte-follows r b idle g a = from-idle r b a (shape r b g)
+byte-follows r b (midway x h) g a = from-midway r b x h g a (shape r b g)
+byte-follows r b (awaiting x ws) g a = from-awaiting r b x ws g a (shape r b g)
+
+ask-follows : (r : Receiver) (s : Stand) → InRange r → At r s → Followed s ask (askedAgain r)
+ask-follows r idle g a = subst (Followed idle ask) (again-in r Off (g .range) a) (idle, idleAsk, a)
+ask-follows r (midway x h) g a =
+    subst (Followed (midway x h) ask) (again-in r Collecting (g .range) (a .0)) (midway x h, midwayAsk, a)
+ask-follows r (awaiting x ws) g a =
+    subst (Followed (awaiting x ws) ask) (again-in r (Waiting (seenIn ws)) (g .range) (a .0)) (
+      awaiting x ws,
+      subst⁻¹ (λ (n : ℕ). Says (awaiting x ws) ask (asks n Nothing) (awaiting x ws)) (a .1) again,
+      a,
+    )
+
+pub follows-one : (e : Event) (r : Receiver) (s : Stand) → InRange r → At r s → Followed s e (obey e r)
+follows-one (byte b) r s g a = byte-follows r b s g a
+follows-one on r s g a =
+    subst⁻¹ (Followed s on) (on-afresh r g) (midway 0 [], switchedOn, (refl, refl, refl, refl))
+follows-one off r s g a = subst⁻¹ (Followed s off) (off-afresh r g) (idle, switchedOff, refl)
+follows-one ask r s g a = ask-follows r s g a
+
+-- ---- a whole run
+
+pub follows-from : (es : List Event) (r : Receiver) (s : Stand) → InRange r → At r s
+    → (t : Stand) × Course s es (sent r es) t × At (run r es) t
+follows-from [] r s g a = (s, done, a)
+follows-from (e ∷ es) r s g a =
+    let f = follows-one e r s g a in
+    let i = follows-from es (obey e r .next) (f .0) (keeps e r g) (f .2) in
+    (i .0, next (f .1) (i .1), i .2)
+
+pub follows : (r : Receiver) → InRange r → (es : List Event)
+    → (t : Stand) × Course (standOf r) es (sent r es) t × Stands (run r es) t
+follows r g es =
+    let i = follows-from es r (standOf r) g (stands-at r g) in (i .0, i .1, at-stands (run r es) (i .0) (i .2))

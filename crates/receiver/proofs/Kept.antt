@@ -1,0 +1,102 @@
+-- Every event keeps a state in range, and a run is the run over its parts. Assumes nothing.
+use mathlib.Core.Path.{_≡_, refl, sym, ap, _∙_, subst⁻¹}
+use mathlib.Core.Bool.{Bool, true, false, cond}
+use mathlib.Core.List.{List, [], _∷_, _++_}
+use Prim.Native.Nat.{ℕ, _+_, _%_, _<_}
+use native.Mathlib.Nat.{mod-lt, zero-lt-suc}
+use native.Mathlib.Omega.{arith}
+use lib.Dec.{ltb}
+use lib.ListN.{length-set}
+use borrow.Author.Tests.{lt-ltb, ltb-true}
+use Rattle.receiver.specs.declared.Phase.{Phase}
+use Rattle.receiver.specs.declared.Phase.the-variants.{Off, Collecting, Waiting}
+use Rattle.receiver.specs.declared.Receiver.{Receiver}
+use Rattle.receiver.specs.declared.Stepped.{Stepped}
+use Rattle.receiver.specs.States.{seenInRange, inRange, InRange, emptied, newReceiver}
+use Rattle.receiver.specs.Calls.{silent, refused, holding, waiting, oneMore, byPhase, switchedOn, switchedOff, againBy, askedAgain}
+use Rattle.receiver.specs.Runs.{Event, byte, on, off, ask, obey, run, Sent, sentBy, sent}
+use Rattle.receiver.proofs.Ranges.{in-range, number-in, count-in, seen-in}
+use Rattle.receiver.proofs.Cases.{again-in}
+use Rattle.receiver.proofs.Shape.{Shape, plain, more, took, none, heard, resumed, dropped, shape}
+
+-- ---- a byte
+
+pub emptied-in : (x : ℕ) (p : Phase) → x < 16 → seenInRange p ≡ true → InRange (emptied x p)
+emptied-in x p h s = record { range = in-range (emptied x p) h (omega arith) s; array = refl }
+
+pub new-in : InRange newReceiver
+new-in = emptied-in 0 Off (omega arith) refl
+
+one-more-lt : (n : ℕ) → oneMore n < 3
+one-more-lt n = go (ltb n 2) refl
+  where
+    go : (t : Bool) → ltb n 2 ≡ t → cond t (n + 1) 2 < 3
+    go true e = let h : n < 2 = ltb-true n 2 e in omega arith
+    go false e = omega arith
+
+byte-keeps : (r : Receiver) (b : ℕ) → InRange r → {s : Stepped} → Shape r b s → InRange (s .next)
+byte-keeps r b g (plain f) = g
+byte-keeps r b g (more f k) =
+    record {
+      range = in-range (holding r b) (number-in r (g .range)) (omega arith) (ap seenInRange f);
+      array = length-set (r .held) (r .count) b ∙ g .array;
+    }
+byte-keeps r b g (took f k C o) =
+    emptied-in ((r .number + 1) % 16) Collecting (mod-lt (r .number + 1) (zero-lt-suc 15)) refl
+byte-keeps r b g (none f k o) = emptied-in (r .number) (Waiting 0) (number-in r (g .range)) refl
+byte-keeps r b g (heard n f e) =
+    record {
+      range =
+        in-range (waiting r (oneMore n)) (number-in r (g .range)) (count-in r (g .range))
+        (lt-ltb (oneMore n) 3 (one-more-lt n));
+      array = g .array;
+    }
+byte-keeps r b g (resumed f e) = emptied-in (r .number) Collecting (number-in r (g .range)) refl
+byte-keeps r b g (dropped n f ne nf) =
+    record { range = in-range (waiting r 0) (number-in r (g .range)) (count-in r (g .range)) refl; array = g .array }
+
+-- ---- the calls of the host
+
+module _ (r : Receiver) (g : InRange r) where
+  pub on-afresh : switchedOn r ≡ silent (emptied 0 Collecting)
+  on-afresh = ap (λ (t : Bool). cond t (silent (emptied 0 Collecting)) (refused r)) (g .range)
+
+  pub off-afresh : switchedOff r ≡ silent (emptied 0 Off)
+  off-afresh = ap (λ (t : Bool). cond t (silent (emptied 0 Off)) (refused r)) (g .range)
+
+  pub again-as : askedAgain r ≡ againBy (r .phase) r
+  again-as = sym (again-in r (r .phase) (g .range) refl)
+
+again-next : (p : Phase) (r : Receiver) → againBy p r .next ≡ r
+again-next Off r = refl
+again-next Collecting r = refl
+again-next (Waiting n) r = refl
+
+-- asking again changes no state, in range or not
+pub again-same : (r : Receiver) → askedAgain r .next ≡ r
+again-same r = go (inRange r)
+  where
+    go : (t : Bool) → cond t (againBy (r .phase) r) (refused r) .next ≡ r
+    go true = again-next (r .phase) r
+    go false = refl
+
+-- ---- runs
+
+pub keeps : (e : Event) (r : Receiver) → InRange r → InRange (obey e r .next)
+keeps (byte b) r g = byte-keeps r b g (shape r b g)
+keeps on r g =
+    subst⁻¹ (λ (s : Stepped). InRange (s .next)) (on-afresh r g) (emptied-in 0 Collecting (omega arith) refl)
+keeps off r g = subst⁻¹ (λ (s : Stepped). InRange (s .next)) (off-afresh r g) new-in
+keeps ask r g = subst⁻¹ InRange (again-same r) g
+
+pub runs-keep : (es : List Event) (r : Receiver) → InRange r → InRange (run r es)
+runs-keep [] r g = g
+runs-keep (e ∷ es) r g = runs-keep es (obey e r .next) (keeps e r g)
+
+pub run-append : (es fs : List Event) (r : Receiver) → run r (es ++ fs) ≡ run (run r es) fs
+run-append [] fs r = refl
+run-append (e ∷ es) fs r = run-append es fs (obey e r .next)
+
+pub sent-append : (es fs : List Event) (r : Receiver) → sent r (es ++ fs) ≡ sent r es ++ sent (run r es) fs
+sent-append [] fs r = refl
+sent-append (e ∷ es) fs r = ap (λ (os : List Sent). sentBy (obey e r) ∷ os) (sent-append es fs (obey e r .next))

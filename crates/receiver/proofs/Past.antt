@@ -1,0 +1,143 @@
+-- The places past the bytes held never matter. Assumes nothing.
+use mathlib.Core.Path.{_≡_, refl, sym, ap, _∙_, subst, subst⁻¹}
+use mathlib.Core.Bool.{Bool, true, false, cond, _&&_}
+use mathlib.Core.List.{List, [], _∷_, _++_}
+use Prim.Native.Nat.{ℕ, _≤_, _<_}
+use native.Mathlib.Omega.{arith}
+use lib.Dec.{ltb, eqb}
+use lib.ListN.{length, take, length-set}
+use borrow.Author.Tests.{ltb-true, ltb-false}
+use Rattle.maker.specs.Making.{valuesOf}
+use Rattle.reader.specs.declared.Verdict.{Verdict}
+use Rattle.reader.specs.Judging.{verdict, left}
+use Rattle.receiver.specs.declared.Phase.{Phase}
+use Rattle.receiver.specs.declared.Phase.the-variants.{Off, Collecting, Waiting}
+use Rattle.receiver.specs.declared.Receiver.{Receiver}
+use Rattle.receiver.specs.declared.Judged.{Judged}
+use Rattle.receiver.specs.declared.Judged.the-variants.{Nothing, Block}
+use Rattle.receiver.specs.declared.Stepped.{Stepped}
+use Rattle.receiver.specs.States.{inRange, emptied}
+use Rattle.receiver.specs.Calls.{
+  syn, four, request, giving, silent, refused, plainly, holding, whole, accepted, repeated, accepts, judgedAs, judgedHeld,
+  collecting, waiting, oneMore, listening, byPhase, againBy
+}
+use Rattle.receiver.specs.Runs.{Event, byte, on, off, ask, obey, run}
+use Rattle.receiver.specs.Alike.{Alike, AlikeSteps}
+use Rattle.receiver.proofs.Ranges.{count-in}
+use Rattle.receiver.proofs.Shape.{arrived, grown, whole-is}
+
+-- ---- what does not look at the array
+
+emptied-alike : (x : ℕ) (p : Phase) → Alike (emptied x p) (emptied x p)
+emptied-alike x p = record { arrays = (refl, refl); count = refl; held = refl; number = refl; phase = refl }
+
+giving-alike : (n : ℕ) {r q : Receiver} (vs qs : List ℕ) (j : Judged) → Alike r q
+    → AlikeSteps (giving n r vs qs j) (giving n q vs qs j)
+giving-alike n vs qs j a =
+    record { next = a; answer = refl; values = refl; passed = refl; request = refl; asked = refl; judged = refl }
+
+judged-alike : (v : Verdict) (x : ℕ) (vs : List ℕ) → AlikeSteps (judgedAs v x vs) (judgedAs v x vs)
+judged-alike v x vs = go (accepts v)
+  where
+    go : (t : Bool) → AlikeSteps (cond t (accepted x vs v) (repeated x v)) (cond t (accepted x vs v) (repeated x v))
+    go true = giving-alike 0 vs [] (Block v) (emptied-alike _ Collecting)
+    go false = giving-alike 0 [] (request x) (Block v) (emptied-alike x (Waiting 0))
+
+-- ---- the same state with another array
+
+abbrev with-held : Receiver → List ℕ → Receiver
+with-held r l = record { held = l; count = r .count; number = r .number; phase = r .phase }
+
+module _ (r : Receiver) (l : List ℕ) (a : Alike r (with-held r l)) where
+  abbrev q : Receiver
+  q = with-held r l
+
+  holding-alike : (b : ℕ) → r .count < 16 → Alike (holding r b) (holding q b)
+  holding-alike b h =
+      record {
+        arrays = (length-set (r .held) (r .count) b ∙ a .arrays .0, length-set l (r .count) b ∙ a .arrays .1);
+        count = refl;
+        held =
+          grown (r .held) (r .count) b (omega (arith, h, a .arrays .0)) ∙ ap (λ (k : List ℕ). k ++ (b ∷ [])) (a .held)
+          ∙ sym (grown l (r .count) b (omega (arith, h, a .arrays .1)));
+        number = refl;
+        phase = refl;
+      }
+
+  same-whole : (b : ℕ) → r .count ≡ 16 → whole r b ≡ whole q b
+  same-whole b k =
+      whole-is r b (a .arrays .0)
+      ∙ ap (λ (h : List ℕ). h ++ (b ∷ []))
+      (ap (λ (n : ℕ). take n (r .held)) (sym k) ∙ a .held ∙ ap (λ (n : ℕ). take n l) k)
+      ∙ sym (whole-is q b (a .arrays .1))
+
+  collecting-alike : (b : ℕ) → r .count < 17 → AlikeSteps (collecting r b) (collecting q b)
+  collecting-alike b h = go (ltb (r .count) 16) refl
+    where
+      go : (t : Bool) → ltb (r .count) 16 ≡ t
+          → AlikeSteps (cond t (silent (holding r b)) (judgedHeld r b)) (cond t (silent (holding q b)) (judgedHeld q b))
+      go true e = giving-alike 0 [] [] Nothing (holding-alike b (ltb-true (r .count) 16 e))
+      go false e =
+          let k : 16 ≤ r .count = ltb-false (r .count) 16 e in
+          subst (λ (B : List ℕ). AlikeSteps (judgedHeld r b) (judgedAs (verdict B) (r .number) (valuesOf (left B))))
+          (same-whole b (omega (arith, h, k)))
+          (judged-alike (verdict (whole r b)) (r .number) (valuesOf (left (whole r b))))
+
+  waiting-alike : (n : ℕ) → Alike (waiting r n) (waiting q n)
+  waiting-alike n = record { arrays = a .arrays; count = refl; held = a .held; number = refl; phase = refl }
+
+  listening-alike : (n b : ℕ) → Alike (listening r n b) (listening q n b)
+  listening-alike n b = go (eqb b syn) (eqb n 2 && eqb b (four (r .number)))
+    where
+      go : (t u : Bool)
+          → Alike (cond t (waiting r (oneMore n)) (cond u (emptied (r .number) Collecting) (waiting r 0)))
+          (cond t (waiting q (oneMore n)) (cond u (emptied (r .number) Collecting) (waiting q 0)))
+      go true u = waiting-alike (oneMore n)
+      go false true = emptied-alike (r .number) Collecting
+      go false false = waiting-alike 0
+
+  byte-alike : (b : ℕ) (p : Phase) → r .count < 17 → AlikeSteps (byPhase p r b) (byPhase p q b)
+  byte-alike b Off h = giving-alike 0 (plainly b ∷ []) [] Nothing a
+  byte-alike b Collecting h = collecting-alike b h
+  byte-alike b (Waiting n) h = giving-alike 0 [] [] Nothing (listening-alike n b)
+
+  again-alike : (p : Phase) → AlikeSteps (againBy p r) (againBy p q)
+  again-alike Off = giving-alike 0 [] [] Nothing a
+  again-alike Collecting = giving-alike 0 [] [] Nothing a
+  again-alike (Waiting n) = giving-alike 0 [] (request (r .number)) Nothing a
+
+  -- both are in range, or neither is
+  either : (S U : Stepped) → (inRange r ≡ true → AlikeSteps S U)
+      → AlikeSteps (cond (inRange r) S (refused r)) (cond (inRange r) U (refused q))
+  either S U f = go (inRange r) refl
+    where
+      go : (t : Bool) → inRange r ≡ t → AlikeSteps (cond t S (refused r)) (cond t U (refused q))
+      go true e = f e
+      go false e = giving-alike 5 [] [] Nothing a
+
+  with-alike : (e : Event) → AlikeSteps (obey e r) (obey e q)
+  with-alike (byte b) =
+      either (byPhase (r .phase) r b) (byPhase (r .phase) q b) (λ e. byte-alike b (r .phase) (count-in r e))
+  with-alike on = either _ _ (λ e. giving-alike 0 [] [] Nothing (emptied-alike 0 Collecting))
+  with-alike off = either _ _ (λ e. giving-alike 0 [] [] Nothing (emptied-alike 0 Off))
+  with-alike ask = either (againBy (r .phase) r) (againBy (r .phase) q) (λ e. again-alike (r .phase))
+
+-- ---- any two states
+
+is-with : {r q : Receiver} → Alike r q → with-held r (q .held) ≡ q
+is-with {r} {q} a =
+    ap (λ (n : ℕ). with-held (record { held = r .held; count = n; number = r .number; phase = r .phase }) (q .held))
+    (a .count)
+    ∙ ap (λ (n : ℕ). with-held (record { held = r .held; count = q .count; number = n; phase = r .phase }) (q .held))
+    (a .number)
+    ∙ ap (λ (p : Phase). with-held (record { held = r .held; count = q .count; number = q .number; phase = p }) (q .held))
+    (a .phase)
+
+pub same-calls : (e : Event) (r q : Receiver) → Alike r q → AlikeSteps (obey e r) (obey e q)
+same-calls e r q a =
+    subst (λ (p : Receiver). AlikeSteps (obey e r) (obey e p)) (is-with a)
+    (with-alike r (q .held) (subst⁻¹ (Alike r) (is-with a) a) e)
+
+pub same-runs : (es : List Event) (r q : Receiver) → Alike r q → Alike (run r es) (run q es)
+same-runs [] r q a = a
+same-runs (e ∷ es) r q a = same-runs es (obey e r .next) (obey e q .next) (same-calls e r q a .next)

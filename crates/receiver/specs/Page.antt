@@ -1,0 +1,126 @@
+-- The page of 01 on the receiver, read from the line's side: how bytes fall into stretches of seventeen and pauses,
+-- and what goes out at each call. No receiver, and no state of one, is spoken of; what is held is what arrived.
+-- Assumes nothing.
+use Prim.Native.Nat.{ℕ, _+_, _%_, _<_}
+use mathlib.Core.Path.{_≡_}
+use mathlib.Core.List.{List, [], _∷_, _++_}
+use lib.ListN.{length, take, replicate}
+use Rattle.maker.specs.Making.{valuesOf}
+use Rattle.reader.specs.declared.Verdict.the-variants.{Repeat}
+use Rattle.reader.specs.Judging.{verdict}
+use Rattle.reader.specs.Claims.{NoneNear, OnlyNear}
+use Rattle.receiver.specs.declared.Phase.{Phase}
+use Rattle.receiver.specs.declared.Phase.the-variants.{Off, Collecting, Waiting}
+use Rattle.receiver.specs.declared.Receiver.{Receiver}
+use Rattle.receiver.specs.declared.Judged.{Judged}
+use Rattle.receiver.specs.declared.Judged.the-variants.{Nothing, Block}
+use Rattle.receiver.specs.Calls.{syn, four, request, plainly}
+use Rattle.receiver.specs.Runs.{Event, byte, on, off, ask, Sent}
+
+-- ---- what goes out
+
+abbrev pub nothing : Sent
+nothing = record { passed = []; asked = []; judged = Nothing }
+
+abbrev pub passes : List ℕ → Judged → Sent
+passes vs j = record { passed = vs; asked = []; judged = j }
+
+abbrev pub asks : ℕ → Judged → Sent
+asks x j = record { passed = []; asked = request x; judged = j }
+
+-- "Ask again ..: in waiting it gives the same two request bytes ..; elsewhere it gives none"
+abbrev pub askedIn : Phase → ℕ → Sent
+askedIn Off x = nothing
+askedIn Collecting x = nothing
+askedIn (Waiting n) x = asks x Nothing
+
+-- while waiting for block x: nothing at a byte, the request at each asking
+abbrev pub whileWaiting : ℕ → Event → Sent
+whileWaiting x (byte b) = nothing
+whileWaiting x on = nothing
+whileWaiting x off = nothing
+whileWaiting x ask = asks x Nothing
+
+-- ---- where the line stands
+
+-- off; or in a stretch for block x, with the bytes since it began; or waiting for block x, with the bytes since the
+-- request
+pub data Stand : Type 0 where
+  idle : Stand
+  midway : ℕ → List ℕ → Stand
+  awaiting : ℕ → List ℕ → Stand
+
+-- "the last three since entering this phase are SYN (1/6), SYN, 4/X with parity"
+abbrev pub Ends : ℕ → List ℕ → Type 0
+Ends x ws = (us : List ℕ) × (ws ≡ us ++ (syn ∷ syn ∷ four x ∷ []))
+
+-- these three stand nowhere in the bytes
+abbrev pub Nowhere : ℕ → List ℕ → Type 0
+Nowhere x ws = (us vs : List ℕ) → ws ≡ us ++ (syn ∷ syn ∷ four x ∷ vs) → ⊥
+
+-- ---- the rules: `Says s e o t`, standing at s the event e sends o, and t is where the line stands then
+
+pub data Says : Stand → Event → Sent → Stand → Type 0 where
+  -- "Off: each byte is passed on with parity removed"
+  plain : {b : ℕ} → Says idle (byte b) (passes (plainly b ∷ []) Nothing) idle
+
+  -- "Collecting: the byte is held"
+  held : {x : ℕ} {h : List ℕ} {b : ℕ} → length h < 16
+      → Says (midway x h) (byte b) nothing (midway x (h ++ (b ∷ [])))
+
+  -- "At the 17th the block is judged. Clean or mended: its fifteen values are passed on .., the number rises by one":
+  -- the values of the only valid block near, and a stretch begins for the next block
+  taken : {x : ℕ} {h : List ℕ} {b : ℕ} {C : List ℕ} → length h ≡ 16 → OnlyNear (h ++ (b ∷ [])) C
+      → Says (midway x h) (byte b) (passes (valuesOf C) (Block (verdict (h ++ (b ∷ []))))) (midway ((x + 1) % 16) [])
+
+  -- "Repeat: nothing is passed on; the request .. goes to the modem": no valid block is near
+  refused : {x : ℕ} {h : List ℕ} {b : ℕ} → length h ≡ 16 → NoneNear (h ++ (b ∷ []))
+      → Says (midway x h) (byte b) (asks x (Block Repeat)) (awaiting x [])
+
+  -- "Waiting: bytes are dropped until .."
+  dropped : {x : ℕ} {ws : List ℕ} {b : ℕ} → (Ends x (ws ++ (b ∷ [])) → ⊥)
+      → Says (awaiting x ws) (byte b) nothing (awaiting x (ws ++ (b ∷ [])))
+
+  -- "Then collecting": a stretch begins for the same block
+  resumed : {x : ℕ} {ws : List ℕ} {b : ℕ} → Ends x (ws ++ (b ∷ []))
+      → Says (awaiting x ws) (byte b) nothing (midway x [])
+
+  -- "Ask again ..: in waiting it gives the same two request bytes and changes nothing; elsewhere it gives none"
+  again : {x : ℕ} {ws : List ℕ} → Says (awaiting x ws) ask (asks x Nothing) (awaiting x ws)
+
+  midwayAsk : {x : ℕ} {h : List ℕ} → Says (midway x h) ask nothing (midway x h)
+
+  idleAsk : Says idle ask nothing idle
+
+  -- "Switched on: collecting, number 0, nothing held or seen"; "Switching off, from any phase, gives off"
+  switchedOn : {s : Stand} → Says s on nothing (midway 0 [])
+
+  switchedOff : {s : Stand} → Says s off nothing idle
+
+-- a whole run: each event by a rule, from where the one before it left the line
+pub data Course : Stand → List Event → List Sent → Stand → Type 0 where
+  done : {s : Stand} → Course s [] [] s
+
+  next : {s t u : Stand} {e : Event} {o : Sent} {es : List Event} {os : List Sent}
+      → Says s e o t → Course t es os u → Course s (e ∷ es) (o ∷ os) u
+
+-- ---- a receiver and where the line stands
+
+-- a state handed in stands as though what it holds, or the codes that it has seen, had just arrived
+abbrev pub standIn : Phase → Receiver → Stand
+standIn Off r = idle
+standIn Collecting r = midway (r .number) (take (r .count) (r .held))
+standIn (Waiting n) r = awaiting (r .number) (replicate n syn)
+
+abbrev pub standOf : Receiver → Stand
+standOf r = standIn (r .phase) r
+
+abbrev pub IsWaiting : Receiver → Type 0
+IsWaiting r = (n : ℕ) × (r .phase ≡ Waiting n)
+
+-- the receiver stands where the line does: the bytes held are those since the stretch began
+abbrev pub Stands : Receiver → Stand → Type 0
+Stands r idle = r .phase ≡ Off
+Stands r (midway x h) =
+    (r .phase ≡ Collecting) × (r .number ≡ x) × (r .count ≡ length h) × (take (r .count) (r .held) ≡ h)
+Stands r (awaiting x ws) = IsWaiting r × (r .number ≡ x)
