@@ -138,6 +138,16 @@ once-whole W k v h =
     let e : verdict (flip k W) ≡ Mended k = right-is (flip k W) (Mended k) (h, subst⁻¹ Valid back v) in
     (e, ap (λ (w : Verdict). leftBy w (flip k W)) e ∙ back)
 
+-- and it is the only valid block near what arrives of it: hit at no bit, or at one mendable bit
+pub near-only : (W : List ℕ) {B : List ℕ} → Valid W → Near mendable W B → OnlyNear B W
+near-only W v same =
+    only-left W Clean (valid-length W v) v (λ e. omega (arith, ap (λ (w : Verdict). told w .number) e))
+near-only W v (changed k h) =
+    let o = once-whole W k v h in
+    subst (OnlyNear (flip k W)) (o .1)
+    (handed-on (flip k W) (flip-length k W ∙ valid-length W v)
+    (λ e. omega (arith, ap (λ (w : Verdict). told w .number) (sym (o .0) ∙ e))))
+
 -- one hit at any two different bits of all 136 is refused, and left as it came
 pub twice-refused : (W : List ℕ) (i j : ℕ) → Valid W → i < 136 → j < 136 → (i ≡ j → ⊥)
     → (verdict (flip i (flip j W)) ≡ Repeat) × (left (flip i (flip j W)) ≡ flip i (flip j W))

@@ -17,7 +17,18 @@ use Rattle.receiver.specs.declared.Stepped.{Stepped}
 use Rattle.receiver.specs.States.{InRange}
 use Rattle.receiver.specs.Calls.{stepped, againBy, askedAgain}
 use Rattle.receiver.specs.Runs.{
-  Event, byte, on, off, ask, obey, run, Sent, sentBy, switches, blocksIn, blocksSince
+  Event,
+  byte,
+  on,
+  off,
+  ask,
+  obey,
+  run,
+  Sent,
+  sentBy,
+  switches,
+  blocksIn,
+  blocksSince,
 }
 use Rattle.receiver.proofs.Ranges.{number-in}
 use Rattle.receiver.proofs.Shape.{Shape, plain, more, took, none, heard, resumed, dropped, shape, arrived}

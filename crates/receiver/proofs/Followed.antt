@@ -23,8 +23,32 @@ use Rattle.receiver.specs.States.{InRange, emptied}
 use Rattle.receiver.specs.Calls.{syn, four, silent, holding, oneMore, askedAgain, stepped}
 use Rattle.receiver.specs.Runs.{Event, byte, on, off, ask, obey, run, Sent, sentBy, sent}
 use Rattle.receiver.specs.Page.{
-  nothing, passes, asks, Stand, idle, midway, awaiting, Ends, Says, plain, held, taken, refused, dropped, resumed, again,
-  midwayAsk, idleAsk, switchedOn, switchedOff, Course, done, next, standIn, standOf, Stands
+  nothing,
+  passes,
+  asks,
+  Stand,
+  idle,
+  midway,
+  awaiting,
+  Ends,
+  Says,
+  plain,
+  held,
+  taken,
+  refused,
+  dropped,
+  resumed,
+  again,
+  midwayAsk,
+  idleAsk,
+  switchedOn,
+  switchedOff,
+  Course,
+  done,
+  next,
+  standIn,
+  standOf,
+  Stands,
 }
 use Rattle.receiver.proofs.Ranges.{number-in, count-in, seen-in}
 use Rattle.receiver.proofs.Cases.{again-in}
@@ -92,7 +116,7 @@ from-idle r b a (shapes.resumed f e) = other-phase (Waiting 2) Off f a refl
 from-idle r b a (shapes.dropped n f ne nf) = other-phase (Waiting n) Off f a refl
 
 -- the bytes of the stretch with one more, at the seventeenth
-arrived-is : (r : Receiver) (b : ℕ) (h : List ℕ) → take (r .count) (r .held) ≡ h → r .count ≡ 16
+pub arrived-is : (r : Receiver) (b : ℕ) (h : List ℕ) → take (r .count) (r .held) ≡ h → r .count ≡ 16
     → arrived r b ≡ h ++ (b ∷ [])
 arrived-is r b h e k =
     ap (λ (l : List ℕ). l ++ (b ∷ [])) (ap (λ (n : ℕ). take n (r .held)) (sym k) ∙ e)

@@ -47,8 +47,8 @@ byte-keeps r b g (none f k o) = emptied-in (r .number) (Waiting 0) (number-in r 
 byte-keeps r b g (heard n f e) =
     record {
       range =
-        in-range (waiting r (oneMore n)) (number-in r (g .range)) (count-in r (g .range))
-        (lt-ltb (oneMore n) 3 (one-more-lt n));
+          in-range (waiting r (oneMore n)) (number-in r (g .range)) (count-in r (g .range))
+          (lt-ltb (oneMore n) 3 (one-more-lt n));
       array = g .array;
     }
 byte-keeps r b g (resumed f e) = emptied-in (r .number) Collecting (number-in r (g .range)) refl

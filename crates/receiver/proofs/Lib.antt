@@ -10,3 +10,6 @@ pub mod Followed
 pub mod Once
 pub mod Waits
 pub mod Past
+pub mod Seventeen
+pub mod Fifteens
+pub mod Whole

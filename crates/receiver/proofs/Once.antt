@@ -9,8 +9,23 @@ use Rattle.reader.specs.Claims.{NoneNear, OnlyNear}
 use Rattle.receiver.specs.declared.Judged.the-variants.{Block}
 use Rattle.receiver.specs.Runs.{Event, Sent}
 use Rattle.receiver.specs.Page.{
-  passes, Stand, Says, plain, held, taken, refused, dropped, resumed, again, midwayAsk, idleAsk, switchedOn,
-  switchedOff, Course, done, next
+  passes,
+  Stand,
+  Says,
+  plain,
+  held,
+  taken,
+  refused,
+  dropped,
+  resumed,
+  again,
+  midwayAsk,
+  idleAsk,
+  switchedOn,
+  switchedOff,
+  Course,
+  done,
+  next,
 }
 
 pub same-block : {B C D : List ℕ} → OnlyNear B C → OnlyNear B D → C ≡ D

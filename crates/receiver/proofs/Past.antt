@@ -18,8 +18,26 @@ use Rattle.receiver.specs.declared.Judged.the-variants.{Nothing, Block}
 use Rattle.receiver.specs.declared.Stepped.{Stepped}
 use Rattle.receiver.specs.States.{inRange, emptied}
 use Rattle.receiver.specs.Calls.{
-  syn, four, request, giving, silent, refused, plainly, holding, whole, accepted, repeated, accepts, judgedAs, judgedHeld,
-  collecting, waiting, oneMore, listening, byPhase, againBy
+  syn,
+  four,
+  request,
+  giving,
+  silent,
+  refused,
+  plainly,
+  holding,
+  whole,
+  accepted,
+  repeated,
+  accepts,
+  judgedAs,
+  judgedHeld,
+  collecting,
+  waiting,
+  oneMore,
+  listening,
+  byPhase,
+  againBy,
 }
 use Rattle.receiver.specs.Runs.{Event, byte, on, off, ask, obey, run}
 use Rattle.receiver.specs.Alike.{Alike, AlikeSteps}
@@ -58,8 +76,8 @@ module _ (r : Receiver) (l : List ℕ) (a : Alike r (with-held r l)) where
         arrays = (length-set (r .held) (r .count) b ∙ a .arrays .0, length-set l (r .count) b ∙ a .arrays .1);
         count = refl;
         held =
-          grown (r .held) (r .count) b (omega (arith, h, a .arrays .0)) ∙ ap (λ (k : List ℕ). k ++ (b ∷ [])) (a .held)
-          ∙ sym (grown l (r .count) b (omega (arith, h, a .arrays .1)));
+            grown (r .held) (r .count) b (omega (arith, h, a .arrays .0)) ∙ ap (λ (k : List ℕ). k ++ (b ∷ [])) (a .held)
+            ∙ sym (grown l (r .count) b (omega (arith, h, a .arrays .1)));
         number = refl;
         phase = refl;
       }

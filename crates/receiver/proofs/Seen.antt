@@ -117,7 +117,7 @@ two-seen us = from-append 0 us (syn ∷ syn ∷ []) ∙ two-more (from 0 us)
 pub ends-last : (x : ℕ) (ws : List ℕ) (b : ℕ) → Ends x (ws ++ (b ∷ [])) → (seenIn ws ≡ 2) × (b ≡ four x)
 ends-last x ws b e =
     let p = snoc-inj ws (e .0 ++ (syn ∷ syn ∷ [])) b (four x)
-        (e .1 ∙ sym (append-assoc (e .0) (syn ∷ syn ∷ []) (four x ∷ []))) in
+    (e .1 ∙ sym (append-assoc (e .0) (syn ∷ syn ∷ []) (four x ∷ []))) in
     (ap seenIn (p .0) ∙ two-seen (e .0), p .1)
 
 pub last-ends : (x : ℕ) (ws : List ℕ) (b : ℕ) → seenIn ws ≡ 2 → b ≡ four x → Ends x (ws ++ (b ∷ []))

@@ -22,8 +22,24 @@ use Rattle.receiver.specs.declared.Receiver.{Receiver}
 use Rattle.receiver.specs.declared.Stepped.{Stepped}
 use Rattle.receiver.specs.States.{InRange, emptied}
 use Rattle.receiver.specs.Calls.{
-  syn, four, silent, passing, plainly, holding, whole, accepted, repeated, accepts, judgedAs, judgedHeld, collecting, waiting,
-  oneMore, listening, byPhase, stepped
+  syn,
+  four,
+  silent,
+  passing,
+  plainly,
+  holding,
+  whole,
+  accepted,
+  repeated,
+  accepts,
+  judgedAs,
+  judgedHeld,
+  collecting,
+  waiting,
+  oneMore,
+  listening,
+  byPhase,
+  stepped,
 }
 use Rattle.receiver.proofs.Ranges.{count-in}
 use Rattle.receiver.proofs.Cases.{step-in}

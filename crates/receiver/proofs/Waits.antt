@@ -12,10 +12,32 @@ use Rattle.receiver.specs.declared.Stepped.{Stepped}
 use Rattle.receiver.specs.States.{InRange, emptied}
 use Rattle.receiver.specs.Calls.{syn, four, silent, stepped}
 use Rattle.receiver.specs.Runs.{
-  Event, byte, on, off, ask, obey, run, Sent, sentBy, sent, unswitched, bytesOf
+  Event,
+  byte,
+  on,
+  off,
+  ask,
+  obey,
+  run,
+  Sent,
+  sentBy,
+  sent,
+  unswitched,
+  bytesOf,
 }
 use Rattle.receiver.specs.Page.{
-  nothing, asks, whileWaiting, Stand, awaiting, Ends, Nowhere, Says, dropped, resumed, again, IsWaiting
+  nothing,
+  asks,
+  whileWaiting,
+  Stand,
+  awaiting,
+  Ends,
+  Nowhere,
+  Says,
+  dropped,
+  resumed,
+  again,
+  IsWaiting,
 }
 use Rattle.receiver.proofs.Ranges.{number-in, seen-in}
 use Rattle.receiver.proofs.Shape as shapes
@@ -63,7 +85,7 @@ waits-on (byte b ∷ ts) r x ws u g a n =
     let f = follows-one (byte b) r (awaiting x ws) g a in
     let d = only-dropped (never x (ws ++ (b ∷ bytesOf ts)) (ws ++ (b ∷ [])) (bytesOf ts) n (sym along)) (f .1) in
     let i = waits-on ts (stepped r b .next) x (ws ++ (b ∷ [])) u (keeps (byte b) r g)
-        (subst (At (stepped r b .next)) (d .1) (f .2)) (subst⁻¹ (Nowhere x) along n) in (
+    (subst (At (stepped r b .next)) (d .1) (f .2)) (subst⁻¹ (Nowhere x) along n) in (
       subst (λ (l : List ℕ). At (run (stepped r b .next) ts) (awaiting x l)) along (i .0),
       ap₂ (λ (o : Sent) (os : List Sent). o ∷ os) (d .0) (i .1),
     )
@@ -80,11 +102,11 @@ waits-on (ask ∷ ts) r x ws u g a n =
 pub waits : (r : Receiver) → InRange r → (n : ℕ) → r .phase ≡ Waiting n → (ts : List Event) → unswitched ts ≡ true
     → Nowhere (r .number) (replicate n syn ++ bytesOf ts)
     → IsWaiting (run r ts) × (run r ts .number ≡ r .number) × (sent r ts ≡ map (whileWaiting (r .number)) ts)
-      × ((b : ℕ) → Ends (r .number) (replicate n syn ++ bytesOf ts ++ (b ∷ []))
-      → stepped (run r ts) b ≡ silent (emptied (r .number) Collecting))
+    × ((b : ℕ) → Ends (r .number) (replicate n syn ++ bytesOf ts ++ (b ∷ []))
+    → stepped (run r ts) b ≡ silent (emptied (r .number) Collecting))
 waits r g n f ts u none =
     let a : At r (awaiting (r .number) (replicate n syn)) =
-        (f ∙ ap Waiting (sym (seen-syns n (seen-in r (g .range) n f))), refl) in
+    (f ∙ ap Waiting (sym (seen-syns n (seen-in r (g .range) n f))), refl) in
     let i = waits-on ts r (r .number) (replicate n syn) u g a none in (
       (seenIn (replicate n syn ++ bytesOf ts), i .0 .0),
       i .0 .1,

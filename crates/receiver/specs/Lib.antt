@@ -3,3 +3,4 @@ pub mod Calls
 pub mod Runs
 pub mod Page
 pub mod Alike
+pub mod Line
