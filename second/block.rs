@@ -40,6 +40,18 @@ pub fn has_even_parity(byte: u8) -> bool {
     byte.count_ones().is_multiple_of(2)
 }
 
+pub fn with_parity(value: u8) -> u8 {
+    if has_even_parity(value) {
+        value
+    } else {
+        value | PARITY_WEIGHT
+    }
+}
+
+pub fn without_parity(byte: u8) -> u8 {
+    byte & !PARITY_WEIGHT
+}
+
 /// The 127 code bits, each at its power.
 pub fn code_polynomial(block: &Block) -> Polynomial {
     let mut polynomial = [false; DEGREE + 1];
@@ -53,14 +65,6 @@ pub fn code_polynomial(block: &Block) -> Polynomial {
 pub fn hit(mut block: Block, bit: usize) -> Block {
     block[bit / 8] ^= weight(bit);
     block
-}
-
-fn with_parity(value: u8) -> u8 {
-    if has_even_parity(value) {
-        value
-    } else {
-        value | PARITY_WEIGHT
-    }
 }
 
 /// The remainder as a value: the coefficient of power i has weight 2^i.

@@ -236,11 +236,11 @@ fn damaged_block(random: &mut Xorshift, hits: usize) -> Block {
     (0..hits).fold(valid, |block, _| block::hit(block, random.below(BITS)))
 }
 
-fn random_block(random: &mut Xorshift) -> Block {
+pub fn random_block(random: &mut Xorshift) -> Block {
     block::form(&random_values(random, USEFUL))
 }
 
-fn random_values(random: &mut Xorshift, count: usize) -> Vec<u8> {
+pub fn random_values(random: &mut Xorshift, count: usize) -> Vec<u8> {
     (0..count).map(|_| random.below(128) as u8).collect()
 }
 

@@ -8,6 +8,9 @@ mod limits;
 mod maker;
 mod polynomial;
 mod reading;
+mod receiver;
+mod receiver_commands;
+mod receiver_state;
 mod trial;
 mod writing;
 

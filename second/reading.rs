@@ -17,6 +17,11 @@ pub fn bytes(word: &str, most: usize) -> Option<Vec<u8>> {
     }
 }
 
+/// Exactly so many bytes.
+pub fn byte_array<const COUNT: usize>(word: &str) -> Option<[u8; COUNT]> {
+    bytes(word, COUNT)?.try_into().ok()
+}
+
 /// A decimal number without sign or leading zero, at most so large.
 pub fn decimal(word: &str, most: usize) -> Option<usize> {
     let only_digits = word.bytes().all(|character| character.is_ascii_digit());

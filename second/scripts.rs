@@ -2,9 +2,15 @@
 
 mod block;
 mod block_scripts;
+mod judge;
 mod limits;
 mod line_scripts;
 mod polynomial;
+mod receiver;
+mod receiver_broken;
+mod receiver_lines;
+mod receiver_record;
+mod receiver_scripts;
 mod script;
 mod writing;
 mod xorshift;
@@ -20,7 +26,7 @@ use script::Script;
 type Stored = (&'static str, fn() -> Script);
 
 /// Every stored script. A new family of commands adds its own here.
-const STORED: [Stored; 7] = [
+const STORED: [Stored; 13] = [
     ("cards", block_scripts::cards),
     ("making", block_scripts::making),
     ("lengths", block_scripts::lengths),
@@ -28,6 +34,12 @@ const STORED: [Stored; 7] = [
     ("hit-twice", block_scripts::hit_twice),
     ("damaged", block_scripts::damaged),
     ("lines", line_scripts::lines),
+    ("rx-cards", receiver_scripts::cards),
+    ("rx-switching", receiver_scripts::switching),
+    ("rx-resuming", receiver_scripts::resuming),
+    ("rx-broken", receiver_broken::broken),
+    ("rx-line", receiver_record::line),
+    ("rx-lines", receiver_lines::lines),
 ];
 
 fn main() -> ExitCode {

@@ -5,6 +5,7 @@ use std::io::{self, BufRead, Write};
 use crate::block_commands::BlockCommands;
 use crate::limits::LONGEST_LINE;
 use crate::reading;
+use crate::receiver_commands::ReceiverCommands;
 
 /// A family of commands, with the state that they act on.
 pub trait Family {
@@ -15,7 +16,7 @@ pub trait Family {
 
 /// Every family in its start state. A new family is a file and a line here.
 fn start_state() -> Vec<Box<dyn Family>> {
-    vec![Box::new(BlockCommands)]
+    vec![Box::new(BlockCommands), Box::new(ReceiverCommands::start())]
 }
 
 /// Runs one script from the start state.
