@@ -1,5 +1,6 @@
 // The bytes and numbers that words name, and bytes as a word.
 use crate::parts::first;
+use bytes::scan::find;
 
 // As many bytes as a word may name.
 pub(crate) const MOST: usize = 64;
@@ -83,6 +84,28 @@ pub(crate) fn decimal(word: &[u8]) -> usize {
         i += 1;
     }
     number
+}
+
+// Puts the numbers that the first words name in `out`, as many as it holds: where the word after them begins, or NONE
+// where one of them names no number or no space ends it.
+pub(crate) fn numbers(words: &[u8], out: &mut [u8]) -> usize {
+    let n = words.len();
+    let mut at = 0;
+    let mut i = 0;
+    while i < out.len() {
+        let e = find(words, at, n, b' ');
+        if e == n {
+            return NONE;
+        }
+        let number = decimal(&words[at..e]);
+        if number > 255 {
+            return NONE;
+        }
+        out[i] = number as u8;
+        at = e + 1;
+        i += 1;
+    }
+    at
 }
 
 const DIGITS: [u8; 16] = *b"0123456789abcdef";
