@@ -57,13 +57,13 @@ fn make(words: &[u8]) -> bool {
     let mut given = [0u8; MOST];
     let count = bytes_of(first(words, e), &mut given);
     let room = decimal(&words[e + 1..]);
-    if count == NONE || room == NONE {
+    if count == NONE || room > MOST {
         return false;
     }
     let mut lent = [0xeeu8; MOST];
     let made = block::make(first(&given, count), first_mut(&mut lent, room));
     write_made(made);
-    write_bytes(first(&lent, room));
+    write_bytes(b" ", first(&lent, room));
     true
 }
 
@@ -95,7 +95,7 @@ fn judge(word: &[u8]) -> bool {
     let part = block::judge(first_mut(&mut lent, n), &mut said, &mut bit);
     let k = copy(part, &mut kept);
     write_verdict(said, bit);
-    write_bytes(first(&lent, n));
-    write_bytes(first(&kept, k));
+    write_bytes(b" ", first(&lent, n));
+    write_bytes(b" ", first(&kept, k));
     true
 }

@@ -5,14 +5,17 @@
 // lines.rt      a script cut into lines, and each line answered
 // words.rt      the bytes and numbers that words name
 // parts.rt      parts of lent memory
-// blocks.rt     the commands of the block code; each further family of commands is such a file
+// blocks.rt     the commands of the block code
+// receiving.rt  the commands of the line receiver; each further family of commands is such a file
 mod blocks;
 mod lines;
 mod parts;
+mod receiving;
 mod words;
 
 use lines::At;
 use lines::LONGEST;
+use receiver::Receiver;
 
 // Runs one script to its end, or until an answer cannot be written. `name` is for error lines.
 fn run(fd: i32, name: &[u8]) {
@@ -21,6 +24,7 @@ fn run(fd: i32, name: &[u8]) {
         length: 0,
         number: 1,
         stopped: false,
+        receiver: Receiver::new(),
     };
     let mut portion = io::large_buffer();
     let mut turns = u64::MAX;
@@ -31,7 +35,8 @@ fn run(fd: i32, name: &[u8]) {
             return;
         }
         if got == 0 {
-            if !lines::end(at, &line) {
+            at = lines::end(at, &line);
+            if at.stopped {
                 os::fail(b"standard output");
             }
             return;

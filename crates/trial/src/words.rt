@@ -1,11 +1,13 @@
 // The bytes and numbers that words name, and bytes as a word.
 use crate::parts::first;
+use bytes::scan::find;
 
 // As many bytes as a word may name.
 pub(crate) const MOST: usize = 64;
 
-// What is answered where a word names nothing.
-pub(crate) const NONE: usize = 65;
+// What is answered where a word names nothing: above every count and number, so that whoever tests for a largest one
+// refuses it too.
+pub(crate) const NONE: usize = usize::MAX;
 
 // Whether two words are the same.
 pub(crate) fn is(word: &[u8], name: &[u8]) -> bool {
@@ -60,48 +62,71 @@ pub(crate) fn bytes(word: &[u8], out: &mut [u8]) -> usize {
     n
 }
 
-// The decimal number of one or two digits that a word names, or NONE where that is above MOST: so it is for every
-// number of the format so far.
+// The decimal number that a word names, or NONE where it names none, or one above 255: the format has no larger.
 pub(crate) fn decimal(word: &[u8]) -> usize {
-    if word.len() == 0 || word.len() > 2 {
+    if word.len() == 0 {
         return NONE;
     }
-    let first = digit(word[0]);
-    if first > 9 {
+    if word.len() > 1 && word[0] == b'0' {
         return NONE;
     }
-    if word.len() == 1 {
-        return first as usize;
+    let mut number = 0;
+    let mut i = 0;
+    while i < word.len() {
+        let d = digit(word[i]);
+        if d > 9 {
+            return NONE;
+        }
+        number = number * 10 + d as usize;
+        if number > 255 {
+            return NONE;
+        }
+        i += 1;
     }
-    let second = digit(word[1]);
-    if second > 9 {
-        return NONE;
+    number
+}
+
+// Puts the numbers that the first words name in `out`, as many as it holds: where the word after them begins, or NONE
+// where one of them names no number or no space ends it.
+pub(crate) fn numbers(words: &[u8], out: &mut [u8]) -> usize {
+    let n = words.len();
+    let mut at = 0;
+    let mut i = 0;
+    while i < out.len() {
+        let e = find(words, at, n, b' ');
+        if e == n {
+            return NONE;
+        }
+        let number = decimal(&words[at..e]);
+        if number > 255 {
+            return NONE;
+        }
+        out[i] = number as u8;
+        at = e + 1;
+        i += 1;
     }
-    if first == 0 {
-        return NONE;
-    }
-    let n = (first * 10 + second) as usize;
-    if n > MOST { NONE } else { n }
+    at
 }
 
 const DIGITS: [u8; 16] = *b"0123456789abcdef";
 
-// Writes a space and bytes as a word, `-` for none; no command has more than MOST.
-pub(crate) fn write_bytes(bytes: &[u8]) {
+// Writes what stands before them, and bytes as a word, `-` for none; no answer has a word of more than MOST.
+pub(crate) fn write_bytes(before: &[u8], bytes: &[u8]) {
+    io::write_all(1, before);
     if bytes.len() == 0 {
-        io::write_all(1, b" -");
+        io::write_all(1, b"-");
         return;
     }
     if bytes.len() > MOST {
         return;
     }
-    let mut text = [b' '; 2 * MOST + 1];
+    let mut text = [0u8; 2 * MOST];
     let mut i = 0;
     while i < bytes.len() {
-        let at = 2 * i + 1;
+        let at = 2 * i;
         text[at] = DIGITS[(bytes[i] / 16 % 16) as usize];
         text[at + 1] = DIGITS[(bytes[i] % 16) as usize];
         i += 1;
     }
-    io::write_all(1, first(&text, 2 * i + 1));
+    io::write_all(1, first(&text, 2 * i));
 }

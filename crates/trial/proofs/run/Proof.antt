@@ -12,6 +12,9 @@ Inv-loop fd name line₀ at₀ portion₀ turns₀ t9 t10 line at portion turns 
 abbrev μ-loop : tie.MeasureT-loop
 μ-loop fd name line₀ at₀ portion₀ turns₀ t9 t10 line at portion turns = turns
 
+new-requires : tie.Need-new-requires Inv-loop μ-loop
+new-requires c κs = search needs
+
 large-buffer-requires : tie.Need-large-buffer-requires Inv-loop μ-loop
 large-buffer-requires c κs = search needs
 
@@ -93,6 +96,7 @@ run-spec =
     (tie.spec
     Inv-loop
     μ-loop
+    new-requires
     large-buffer-requires
     loop-holds
     slice-aggregate-read

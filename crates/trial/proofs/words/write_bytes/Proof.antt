@@ -1,22 +1,25 @@
 -- `trial::words::write_bytes` is safe and ends. Assumes nothing.
 use Prim.Native.Nat.{_≤_, _-_}
 use mathlib.Core.Path.{_≡_}
-use lib.ListN.{length}
 use borrow.Author.Needs.{needs}
+use lib.ListN.{length}
 use Rattle.trial.proofs.words.write_bytes.Statement.{statement}
 use Rattle.trial.proofs.words.write_bytes.Tie as tie
 
 abbrev Inv-loop : tie.InvT-loop
-Inv-loop bytes text₀ i₀ text i = (i ≤ length bytes) × (length bytes ≤ 64) × (length text ≡ 129)
+Inv-loop before bytes text₀ i₀ text i = (i ≤ length bytes) × (length bytes ≤ 64) × (length text ≡ 128)
 
 abbrev μ-loop : tie.MeasureT-loop
-μ-loop bytes text₀ i₀ text i = length bytes - i
+μ-loop before bytes text₀ i₀ text i = length bytes - i
+
+write-all-requires : tie.Need-write-all-requires Inv-loop μ-loop
+write-all-requires c κs = search needs
 
 slice-aggregate-write-all : tie.Need-slice-aggregate-write-all Inv-loop μ-loop
 slice-aggregate-write-all c = search needs
 
-write-all-requires : tie.Need-write-all-requires Inv-loop μ-loop
-write-all-requires c κs = search needs
+write-all-requires-2 : tie.Need-write-all-requires-2 Inv-loop μ-loop
+write-all-requires-2 c κs = search needs
 
 returns : tie.Need-returns Inv-loop μ-loop
 returns c = search needs
@@ -29,9 +32,6 @@ loop-holds c = search needs
 
 mul-at : tie.Need-mul-at Inv-loop μ-loop
 mul-at c = search needs
-
-add-at : tie.Need-add-at Inv-loop μ-loop
-add-at c = search needs
 
 shared-slice-read-text : tie.Need-shared-slice-read-text Inv-loop μ-loop
 shared-slice-read-text c = search needs
@@ -75,14 +75,11 @@ slice-aggregate-first c = search needs
 mul-first : tie.Need-mul-first Inv-loop μ-loop
 mul-first c = search needs
 
-add-first : tie.Need-add-first Inv-loop μ-loop
-add-first c = search needs
-
 first-requires : tie.Need-first-requires Inv-loop μ-loop
 first-requires c κs = search needs
 
-write-all-requires-2 : tie.Need-write-all-requires-2 Inv-loop μ-loop
-write-all-requires-2 c κs = search needs
+write-all-requires-3 : tie.Need-write-all-requires-3 Inv-loop μ-loop
+write-all-requires-3 c κs = search needs
 
 returns-3 : tie.Need-returns-3 Inv-loop μ-loop
 returns-3 c = search needs
@@ -93,13 +90,13 @@ write-bytes-spec =
     (tie.spec
     Inv-loop
     μ-loop
-    slice-aggregate-write-all
     write-all-requires
+    slice-aggregate-write-all
+    write-all-requires-2
     returns
     returns-2
     loop-holds
     mul-at
-    add-at
     shared-slice-read-text
     cast-text
     array-read-text
@@ -114,7 +111,6 @@ write-bytes-spec =
     loop-again
     slice-aggregate-first
     mul-first
-    add-first
     first-requires
-    write-all-requires-2
+    write-all-requires-3
     returns-3)

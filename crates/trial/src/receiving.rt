@@ -1,0 +1,128 @@
+// The commands of the line receiver: `rx new`, `rx on`, `rx off`, `rx ask`, `rx byte HH` and
+// `rx set PHASE NUMBER COUNT SEEN HELD`. Their answers are all of one form:
+// NUMBER passed=VALUES modem=BYTES state=PHASE,NUMBER,COUNT,SEEN,HELD.
+use crate::parts::first;
+use crate::words::bytes as bytes_of;
+use crate::words::is;
+use crate::words::numbers;
+use crate::words::write_bytes;
+use receiver::Phase;
+use receiver::Receiver;
+use receiver::Stepped;
+
+// Whether a line was a command of this family, and the receiver after it.
+pub(crate) struct Obeyed {
+    pub(crate) known: bool,
+    pub(crate) receiver: Receiver,
+}
+
+// Answers a command of this family, up to the end of the line, or says that the line is none. A command of more than
+// two words has ten characters or more.
+pub(crate) fn obey(line: &[u8], now: Receiver) -> Obeyed {
+    let no = Obeyed {
+        known: false,
+        receiver: now,
+    };
+    if is(line, b"rx new") {
+        return put(Receiver::new());
+    }
+    if is(line, b"rx on") {
+        return answer(now.switch_on());
+    }
+    if is(line, b"rx off") {
+        return answer(now.switch_off());
+    }
+    if is(line, b"rx ask") {
+        return answer(now.ask_again());
+    }
+    if line.len() < 10 {
+        return no;
+    }
+    if is(first(line, 7), b"rx set ") {
+        return set(&line[7..], now);
+    }
+    let mut byte = [0u8; 1];
+    if is(first(line, 8), b"rx byte ") && bytes_of(&line[8..], &mut byte) == 1 {
+        return answer(now.step(byte[0]));
+    }
+    no
+}
+
+// The state as answers have it. A broken one may count more bytes than there are; then all of them are shown.
+fn write_state(r: Receiver) {
+    let phase = r.phase;
+    let mut seen: u8 = 0;
+    match phase {
+        Phase::Off => {
+            io::write_all(1, b" state=0,");
+        }
+        Phase::Collecting => {
+            io::write_all(1, b" state=1,");
+        }
+        Phase::Waiting(codes) => {
+            io::write_all(1, b" state=2,");
+            seen = codes;
+        }
+    }
+    io::print_decimal(1, r.number as u64);
+    io::write_all(1, b",");
+    io::print_decimal(1, r.count as u64);
+    io::write_all(1, b",");
+    io::print_decimal(1, seen as u64);
+    let held = r.held;
+    write_bytes(b",", first(&held, r.count));
+}
+
+// What a call handed back.
+fn answer(done: Stepped) -> Obeyed {
+    let next = done.next;
+    let values = done.values;
+    let request = done.request;
+    io::print_decimal(1, done.answer as u64);
+    write_bytes(b" passed=", first(&values, done.passed));
+    write_bytes(b" modem=", first(&request, done.asked));
+    write_state(next);
+    Obeyed {
+        known: true,
+        receiver: next,
+    }
+}
+
+// A state that no call made: nothing goes out.
+fn put(state: Receiver) -> Obeyed {
+    io::write_all(1, b"0 passed=- modem=-");
+    write_state(state);
+    Obeyed {
+        known: true,
+        receiver: state,
+    }
+}
+
+// The state that `rx set` names, in range or not; its phase is 0, 1 or 2. SEEN is part of it in waiting alone.
+fn state(phase: u8, number: u8, count: u8, seen: u8, held: [u8; 17]) -> Receiver {
+    let named = match phase {
+        0 => Phase::Off,
+        1 => Phase::Collecting,
+        _ => Phase::Waiting(seen),
+    };
+    Receiver {
+        held: held,
+        count: count as usize,
+        number: number,
+        phase: named,
+    }
+}
+
+// `rx set PHASE NUMBER COUNT SEEN HELD`, from its phase on.
+fn set(words: &[u8], now: Receiver) -> Obeyed {
+    let mut given = [0u8; 4];
+    let mut held = [0u8; 17];
+    let at = numbers(words, &mut given);
+    if at <= words.len() && given[0] <= 2 && bytes_of(&words[at..], &mut held) == 17 {
+        return put(state(given[0], given[1], given[2], given[3], held));
+    }
+    Obeyed {
+        known: false,
+        receiver: now,
+    }
+}
