@@ -2,7 +2,7 @@
 use mathlib.Core.Path.{_≡_, sym, ap, ap₂, _∙_}
 use mathlib.Core.Bool.{Bool, true, false, cond}
 use mathlib.Core.List.{List, [], _∷_, _++_, append-nil}
-use Prim.Native.Nat.{ℕ, _-_, _+_, _%_}
+use Prim.Native.Nat.{ℕ, _-_}
 use lib.ListN.{length, replicate}
 use native.Mathlib.Omega.{arith}
 use Rattle.maker.specs.Making.{valuesOf}
@@ -10,12 +10,11 @@ use Rattle.reader.specs.declared.Verdict.{Verdict}
 use Rattle.reader.specs.Judging.{verdict, left, told, judged}
 use Rattle.reader.proofs.Handed.{told-verdict}
 use Rattle.receiver.specs.declared.Phase.{Phase}
-use Rattle.receiver.specs.declared.Phase.the-variants.{Collecting}
 use Rattle.receiver.specs.declared.Receiver.{Receiver}
 use Rattle.receiver.specs.declared.Judged.{Judged}
 use Rattle.receiver.specs.declared.Judged.the-variants.{Block}
 use Rattle.receiver.specs.declared.Stepped.{Stepped}
-use Rattle.receiver.specs.States.{inRange, emptied}
+use Rattle.receiver.specs.States.{inRange}
 use Rattle.receiver.specs.Calls.{
   padded,
   giving,
@@ -42,21 +41,26 @@ abbrev pub handing : Receiver → List ℕ → ℕ → Judged → Stepped
 handing r vs n j =
     record { next = r; answer = 0; values = vs; passed = n; request = replicate 2 0; asked = 0; judged = j }
 
-pub accepting : (x : ℕ) (vs : List ℕ) (v : Verdict) {r : Receiver} → r ≡ emptied ((x + 1) % 16) Collecting
+pub accepting : (x : ℕ) (vs : List ℕ) (v : Verdict) {r : Receiver} → r ≡ accepted x vs v .next
     → length vs ≡ 15 → handing r vs 15 (Block v) ≡ accepted x vs v
 accepting x vs v {r} e l =
     ap (λ (q : Receiver). handing q vs 15 (Block v)) e
-    ∙ ap₂ (λ (a : List ℕ) (n : ℕ). handing (emptied ((x + 1) % 16) Collecting) a n (Block v)) (padded-full 15 vs l) (sym l)
+    ∙ ap₂ (λ (a : List ℕ) (n : ℕ). handing (accepted x vs v .next) a n (Block v)) (padded-full 15 vs l) (sym l)
 
-module _ (r : Receiver) (b : ℕ) (v : Verdict) (C : List ℕ) (m : (told v ≡ judged (whole r b)) × (C ≡ left (whole r b))) where
-  as-judged : judgedAs v (r .number) (valuesOf C) ≡ judgedHeld r b
-  as-judged = ap₂ (λ (w : Verdict) (B : List ℕ). judgedAs w (r .number) (valuesOf B)) (told-verdict (whole r b) v (m .0)) (m .1)
+module _ (r : Receiver) (b : ℕ) (v : Verdict) (C : List ℕ)
+    (m : (told v ≡ judged (whole r b)) × (C ≡ left (whole r b))) where
+  as-judged : {t : Bool} → accepts v ≡ t
+      → cond t (accepted (r .number) (valuesOf C) v) (repeated (r .number) v) ≡ judgedHeld r b
+  as-judged e =
+      ap (λ (t : Bool). cond t (accepted (r .number) (valuesOf C) v) (repeated (r .number) v)) (sym e)
+      ∙ ap₂ (λ (w : Verdict) (B : List ℕ). judgedAs w (r .number) (valuesOf B)) (told-verdict (whole r b) v (m .0))
+      (m .1)
 
   pub taken-as : accepts v ≡ true → accepted (r .number) (valuesOf C) v ≡ judgedHeld r b
-  taken-as e = ap (λ (t : Bool). cond t (accepted (r .number) (valuesOf C) v) (repeated (r .number) v)) (sym e) ∙ as-judged
+  taken-as e = as-judged e
 
   pub asked-as : accepts v ≡ false → repeated (r .number) v ≡ judgedHeld r b
-  asked-as e = ap (λ (t : Bool). cond t (accepted (r .number) (valuesOf C) v) (repeated (r .number) v)) (sym e) ∙ as-judged
+  asked-as e = as-judged e
 
 module _ (r : Receiver) (p : Phase) (e : inRange r ≡ true) (f : r .phase ≡ p) where
   pub step-in : (b : ℕ) → byPhase p r b ≡ stepped r b

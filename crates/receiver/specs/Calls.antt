@@ -137,13 +137,17 @@ byPhase (Waiting n) r b = silent (listening r n b)
 abbrev pub stepped : Receiver → ℕ → Stepped
 stepped r b = cond (inRange r) (byPhase (r .phase) r b) (refused r)
 
+-- "starts afresh": number 0, nothing held or seen
+abbrev pub switchedTo : Phase → Receiver → Stepped
+switchedTo p r = cond (inRange r) (silent (emptied 0 p)) (refused r)
+
 -- "Switched on: collecting, number 0, nothing held or seen", "also when already on"
 abbrev pub switchedOn : Receiver → Stepped
-switchedOn r = cond (inRange r) (silent (emptied 0 Collecting)) (refused r)
+switchedOn r = switchedTo Collecting r
 
 -- "Switching off, from any phase, gives off, number 0, nothing held or seen"
 abbrev pub switchedOff : Receiver → Stepped
-switchedOff r = cond (inRange r) (silent (emptied 0 Off)) (refused r)
+switchedOff r = switchedTo Off r
 
 -- "in waiting it gives the same two request bytes and changes nothing; elsewhere it gives none"
 abbrev pub againBy : Phase → Receiver → Stepped

@@ -9,19 +9,19 @@
 // line's side, without a receiver, and proofs/ shows that the two agree at every moment of every run.
 ghost use mathlib.Core.Path.{_≡_};
 ghost use Rattle.receiver.specs.States.{newReceiver};
-ghost use Rattle.receiver.specs.Calls.{stepped, switchedOn, switchedOff, askedAgain};
+ghost use Rattle.receiver.specs.Calls.{stepped, switchedTo, switchedOn, switchedOff, askedAgain};
 
 mod outcomes;
 mod phases;
+mod requests;
 mod states;
 
-use outcomes::ask;
+use outcomes::pass;
 use outcomes::silent;
 use phases::collect;
 use phases::listen;
-use phases::pass;
 use reader::Verdict;
-use states::emptied;
+use requests::ask;
 use states::in_range;
 
 pub enum Phase {
@@ -89,26 +89,36 @@ impl Receiver {
         }
     }
 
+    // Number 0, nothing held or seen, whatever the phase was.
+    fn switched(self, phase: Phase) -> Stepped
+        ensures { λ r. ⌜ r ≡ switchedTo phase self ⌝ }
+    {
+        if in_range(self) {
+            let held = [0u8; 17];
+            let next = Receiver {
+                held: held,
+                count: 0,
+                number: 0,
+                phase: phase,
+            };
+            silent(next, 0)
+        } else {
+            silent(self, 5)
+        }
+    }
+
     // Collecting, number 0, nothing held or seen; also when already on.
     pub fn switch_on(self) -> Stepped
         ensures { λ r. ⌜ r ≡ switchedOn self ⌝ }
     {
-        if in_range(self) {
-            silent(emptied(0, Phase::Collecting), 0)
-        } else {
-            silent(self, 5)
-        }
+        self.switched(Phase::Collecting)
     }
 
     // Off, number 0, nothing held or seen.
     pub fn switch_off(self) -> Stepped
         ensures { λ r. ⌜ r ≡ switchedOff self ⌝ }
     {
-        if in_range(self) {
-            silent(emptied(0, Phase::Off), 0)
-        } else {
-            silent(self, 5)
-        }
+        self.switched(Phase::Off)
     }
 
     // The request once more while waiting, nothing elsewhere; the state stays.

@@ -1,12 +1,15 @@
-// What calls hand back where no value passes.
+// What a call hands back where nothing is asked: no value, one or fifteen.
 ghost use mathlib.Core.Path.{_≡_};
 ghost use mathlib.Core.List.{[]};
 ghost use Prim.Native.Nat.{_<_};
 ghost use Rattle.receiver.specs.declared.Judged.the-variants.{Nothing};
-ghost use Rattle.receiver.specs.Calls.{giving, request as requestFor};
+ghost use Rattle.receiver.specs.Calls.{giving, plainly, passing, accepted};
 use crate::Judged;
+use crate::Phase;
 use crate::Receiver;
 use crate::Stepped;
+use crate::states::emptied;
+use reader::Verdict;
 
 // Nothing goes out.
 pub(crate) fn silent(next: Receiver, answer: u8) -> Stepped
@@ -23,19 +26,39 @@ pub(crate) fn silent(next: Receiver, answer: u8) -> Stepped
     }
 }
 
-// The request for the block awaited goes out: NACK and 4/X, with parity.
-pub(crate) fn ask(next: Receiver, judged: Judged) -> Stepped
-    requires { ⌜ next .number < 16 ⌝ }
-    ensures { λ r. ⌜ r ≡ giving 0 next [] (requestFor (next .number)) judged ⌝ }
+// Off: the byte passes without parity; one of odd parity passes as 7/F.
+pub(crate) fn pass(next: Receiver, byte: u8) -> Stepped
+    ensures { λ r. ⌜ r ≡ passing next (plainly byte) ⌝ }
 {
-    let four = block::with_parity(64 + next.number);
+    let mut values = [0u8; 15];
+    if parity::is_even(byte) {
+        values[0] = byte % 128;
+    } else {
+        values[0] = 127;
+    }
     Stepped {
         next: next,
         answer: 0,
-        values: [0; 15],
-        passed: 0,
-        request: [149, four],
-        asked: 2,
-        judged: judged,
+        values: values,
+        passed: 1,
+        request: [0; 2],
+        asked: 0,
+        judged: Judged::Nothing,
+    }
+}
+
+// A block accepted: its values pass, and the next one is awaited.
+pub(crate) fn accept(number: u8, values: [u8; 15], verdict: Verdict) -> Stepped
+    requires { ⌜ number < 16 ⌝ }
+    ensures { λ r. ⌜ r ≡ accepted number values verdict ⌝ }
+{
+    Stepped {
+        next: emptied((number + 1) % 16, Phase::Collecting),
+        answer: 0,
+        values: values,
+        passed: 15,
+        request: [0; 2],
+        asked: 0,
+        judged: Judged::Block(verdict),
     }
 }

@@ -1,60 +1,15 @@
-// What a byte does in each phase.
+// What a byte does while the receiver is on.
 ghost use mathlib.Core.Path.{_≡_};
 ghost use Prim.Native.Nat.{_<_};
-ghost use Rattle.receiver.specs.Calls.{plainly, passing, accepted, repeated, judgedHeld, collecting, listening};
-use crate::Judged;
+ghost use Rattle.receiver.specs.Calls.{judgedHeld, collecting, listening};
 use crate::Phase;
 use crate::Receiver;
 use crate::Stepped;
-use crate::outcomes::ask;
+use crate::outcomes::accept;
 use crate::outcomes::silent;
+use crate::requests::repeat;
 use crate::states::emptied;
 use reader::Verdict;
-
-// Off: the byte passes without parity; one of odd parity passes as 7/F.
-pub(crate) fn pass(r: Receiver, byte: u8) -> Stepped
-    ensures { λ s. ⌜ s ≡ passing r (plainly byte) ⌝ }
-{
-    let mut values = [0u8; 15];
-    if parity::is_even(byte) {
-        values[0] = byte % 128;
-    } else {
-        values[0] = 127;
-    }
-    Stepped {
-        next: r,
-        answer: 0,
-        values: values,
-        passed: 1,
-        request: [0; 2],
-        asked: 0,
-        judged: Judged::Nothing,
-    }
-}
-
-// A block accepted: its values pass, and the next one is awaited.
-fn accept(number: u8, values: [u8; 15], verdict: Verdict) -> Stepped
-    requires { ⌜ number < 16 ⌝ }
-    ensures { λ s. ⌜ s ≡ accepted number values verdict ⌝ }
-{
-    Stepped {
-        next: emptied((number + 1) % 16, Phase::Collecting),
-        answer: 0,
-        values: values,
-        passed: 15,
-        request: [0; 2],
-        asked: 0,
-        judged: Judged::Block(verdict),
-    }
-}
-
-// A block refused: it is asked for, and awaited.
-fn repeat(number: u8, verdict: Verdict) -> Stepped
-    requires { ⌜ number < 16 ⌝ }
-    ensures { λ s. ⌜ s ≡ repeated number verdict ⌝ }
-{
-    ask(emptied(number, Phase::Waiting(0)), Judged::Block(verdict))
-}
 
 // The seventeenth byte: the block is judged where it lies in a copy of what is held.
 fn judge_held(r: Receiver, byte: u8) -> Stepped

@@ -1,8 +1,8 @@
--- `receiver::phases::accept` meets its contract: an array of fifteen is full. Assumes nothing.
+-- `receiver::outcomes::accept` meets its contract: an array of fifteen is full. Assumes nothing.
 use Rattle.receiver.proofs.Cases.{accepting}
 use borrow.Author.Needs.{needs}
-use Rattle.receiver.proofs.phases.accept.Statement.{statement}
-use Rattle.receiver.proofs.phases.accept.Tie as tie
+use Rattle.receiver.proofs.outcomes.accept.Statement.{statement}
+use Rattle.receiver.proofs.outcomes.accept.Tie as tie
 
 add-emptied : tie.Need-add-emptied
 add-emptied c = search needs

@@ -1,7 +1,7 @@
--- `receiver::outcomes::ask` meets its contract. Assumes nothing.
+-- `receiver::requests::ask` meets its contract. Assumes nothing.
 use borrow.Author.Needs.{needs}
-use Rattle.receiver.proofs.outcomes.ask.Statement.{statement}
-use Rattle.receiver.proofs.outcomes.ask.Tie as tie
+use Rattle.receiver.proofs.requests.ask.Statement.{statement}
+use Rattle.receiver.proofs.requests.ask.Tie as tie
 
 add-with-parity : tie.Need-add-with-parity
 add-with-parity c = search needs

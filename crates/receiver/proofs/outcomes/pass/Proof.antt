@@ -1,7 +1,7 @@
--- `receiver::phases::pass` meets its contract. Assumes nothing.
+-- `receiver::outcomes::pass` meets its contract. Assumes nothing.
 use borrow.Author.Needs.{needs}
-use Rattle.receiver.proofs.phases.pass.Statement.{statement}
-use Rattle.receiver.proofs.phases.pass.Tie as tie
+use Rattle.receiver.proofs.outcomes.pass.Statement.{statement}
+use Rattle.receiver.proofs.outcomes.pass.Tie as tie
 
 is-even-requires : tie.Need-is-even-requires
 is-even-requires c κs = search needs
