@@ -3,23 +3,17 @@ use mathlib.Core.Path.{_≡_, refl, ap, _∙_, subst⁻¹}
 use mathlib.Core.List.{[]}
 use mathlib.Core.Logic.{_⊎_, inl, inr}
 use Prim.Native.Nat.{ℕ}
-use Rattle.division.specs.Division.{lowBits}
-use Rattle.parity.specs.Parity.{ones, withParity}
+use Rattle.codes.specs.Codes.{request}
 use Rattle.receiver.specs.declared.Phase.{Phase}
 use Rattle.receiver.specs.declared.Phase.the-variants.{Off, Collecting, Waiting}
 use Rattle.receiver.specs.declared.Receiver.{Receiver}
-use Rattle.receiver.specs.declared.Judged.the-variants.{Nothing}
 use Rattle.receiver.specs.declared.Stepped.{Stepped}
 use Rattle.receiver.specs.States.{InRange}
-use Rattle.receiver.specs.Calls.{syn, nack, request, againBy, askedAgain}
+use Rattle.receiver.specs.Calls.{againBy, askedAgain}
 use Rattle.receiver.specs.Runs.{Event, byte, on, off, ask, obey, sentBy}
-use Rattle.receiver.specs.Page.{nothing, asks, askedIn, IsWaiting}
-use Rattle.receiver.proofs.Shape.{Shape, plain, more, took, none, heard, resumed, dropped, shape}
+use Rattle.receiver.specs.Page.{askedIn, IsWaiting}
+use Rattle.receiver.proofs.Shape.{Shape, plain, more, took, none, listens, shape}
 use Rattle.receiver.proofs.Kept.{on-afresh, off-afresh, again-as}
-
-pub codes-carry-parity : (syn ≡ withParity 22) × (nack ≡ withParity 21)
-unfolding withParity ones lowBits
-codes-carry-parity = (refl, refl)
 
 -- nothing is asked; or the block awaited is, its number stays, and the receiver waits
 abbrev pub Asked : Receiver → Stepped → Type 0
@@ -32,9 +26,7 @@ byte-asked r b (plain f) = inl refl
 byte-asked r b (more f k) = inl refl
 byte-asked r b (took f k C o) = inl refl
 byte-asked r b (none f k o) = inr (refl, refl, (0, refl))
-byte-asked r b (heard n f e) = inl refl
-byte-asked r b (resumed f e) = inl refl
-byte-asked r b (dropped n f ne nf) = inl refl
+byte-asked r b (listens n f) = inl refl
 
 again-asked : (r : Receiver) (p : Phase) → r .phase ≡ p → Asked r (againBy p r)
 again-asked r Off f = inl refl

@@ -49,18 +49,12 @@ accepting x vs v {r} e l =
 
 module _ (r : Receiver) (b : ℕ) (v : Verdict) (C : List ℕ)
     (m : (told v ≡ judged (whole r b)) × (C ≡ left (whole r b))) where
-  as-judged : {t : Bool} → accepts v ≡ t
+  pub as-judged : {t : Bool} → accepts v ≡ t
       → cond t (accepted (r .number) (valuesOf C) v) (repeated (r .number) v) ≡ judgedHeld r b
   as-judged e =
       ap (λ (t : Bool). cond t (accepted (r .number) (valuesOf C) v) (repeated (r .number) v)) (sym e)
       ∙ ap₂ (λ (w : Verdict) (B : List ℕ). judgedAs w (r .number) (valuesOf B)) (told-verdict (whole r b) v (m .0))
       (m .1)
-
-  pub taken-as : accepts v ≡ true → accepted (r .number) (valuesOf C) v ≡ judgedHeld r b
-  taken-as e = as-judged e
-
-  pub asked-as : accepts v ≡ false → repeated (r .number) v ≡ judgedHeld r b
-  asked-as e = as-judged e
 
 module _ (r : Receiver) (p : Phase) (e : inRange r ≡ true) (f : r .phase ≡ p) where
   pub step-in : (b : ℕ) → byPhase p r b ≡ stepped r b

@@ -8,6 +8,9 @@ use lib.Dec.{eqb}
 use lib.ListN.{length}
 use borrow.Author.Tests.{eq-eqb}
 use Rattle.laws.proofs.Computed.{fails}
+use Rattle.codes.specs.declared.Listened.{Listened}
+use Rattle.codes.specs.declared.Listened.the-variants.{Seen, Resumed}
+use Rattle.codes.specs.Codes.{listened}
 use Rattle.maker.specs.Making.{valuesOf}
 use Rattle.reader.specs.Judging.{verdict}
 use Rattle.receiver.specs.declared.Phase.{Phase}
@@ -15,7 +18,7 @@ use Rattle.receiver.specs.declared.Phase.the-variants.{Off, Collecting, 
 use Rattle.receiver.specs.declared.Receiver.{Receiver}
 use Rattle.receiver.specs.declared.Stepped.{Stepped}
 use Rattle.receiver.specs.States.{InRange}
-use Rattle.receiver.specs.Calls.{stepped, againBy, askedAgain}
+use Rattle.receiver.specs.Calls.{listening, stepped, againBy, askedAgain}
 use Rattle.receiver.specs.Runs.{
   Event,
   byte,
@@ -31,9 +34,14 @@ use Rattle.receiver.specs.Runs.{
   blocksSince,
 }
 use Rattle.receiver.proofs.Ranges.{number-in}
-use Rattle.receiver.proofs.Shape.{Shape, plain, more, took, none, heard, resumed, dropped, shape, arrived}
+use Rattle.receiver.proofs.Shape.{Shape, plain, more, took, none, listens, shape, arrived}
 use Rattle.receiver.proofs.Kept.{on-afresh, off-afresh, again-as, again-same, keeps}
 use Rattle.receiver.proofs.Outgoing.{sent-accepted, near-fifteen}
+
+-- listening leaves the number
+listening-number : (l : Listened) (r : Receiver) → listening l r .number ≡ r .number
+listening-number (Seen n) r = refl
+listening-number Resumed r = refl
 
 byte-moves : (r : Receiver) (b : ℕ) → InRange r → {s : Stepped} → Shape r b s
     → s .next .number ≡ (r .number + blocksIn (sentBy s)) % 16
@@ -44,9 +52,9 @@ byte-moves r b g (took f k C o) =
     (sym (ap blocksIn (sent-accepted (r .number) (valuesOf C) (verdict (arrived r b)))
     ∙ ap (λ (t : Bool). cond t 1 0) (eq-eqb (length (valuesOf C)) 15 (near-fifteen (arrived r b) C o))))
 byte-moves r b g (none f k o) = let h : r .number < 16 = number-in r (g .range) in omega arith
-byte-moves r b g (heard n f e) = let h : r .number < 16 = number-in r (g .range) in omega arith
-byte-moves r b g (resumed f e) = let h : r .number < 16 = number-in r (g .range) in omega arith
-byte-moves r b g (dropped n f ne nf) = let h : r .number < 16 = number-in r (g .range) in omega arith
+byte-moves r b g (listens n f) =
+    let h : r .number < 16 = number-in r (g .range) in
+    listening-number (listened (r .number) n b) r ∙ omega arith
 
 -- asking again passes nothing
 ask-moves : (r : Receiver) → InRange r → askedAgain r .next .number ≡ (r .number + blocksIn (sentBy (askedAgain r))) % 16

@@ -2,13 +2,18 @@
 use mathlib.Core.Path.{_≡_, refl, sym, ap, ap₂, _∙_, subst, subst⁻¹}
 use mathlib.Core.Bool.{Bool, true, false, cond}
 use mathlib.Core.List.{List, [], _∷_, _++_}
+use mathlib.Core.Logic.{_⊎_, inl, inr}
 use Prim.Native.Nat.{ℕ, _+_, _%_, _<_}
 use native.Mathlib.Omega.{arith}
 use lib.Dec.{eqb}
 use lib.ListN.{length, take, replicate, length-append}
 use lib.Seq.{length-take-le}
-use borrow.Author.Tests.{eq-eqb, ne-eqb}
+use borrow.Author.Tests.{eq-eqb}
 use Rattle.laws.proofs.Computed.{fails, holds}
+use Rattle.codes.specs.declared.Listened.{Listened}
+use Rattle.codes.specs.declared.Listened.the-variants.{Seen, Resumed}
+use Rattle.codes.specs.Codes.{listened, Ends}
+use Rattle.codes.proofs.Seen.{seenIn, seen-syns, heard}
 use Rattle.maker.specs.Making.{valuesOf}
 use Rattle.reader.specs.declared.Verdict.{Verdict}
 use Rattle.reader.specs.declared.Verdict.the-variants.{Repeat}
@@ -20,7 +25,7 @@ use Rattle.receiver.specs.declared.Receiver.{Receiver}
 use Rattle.receiver.specs.declared.Judged.the-variants.{Nothing, Block}
 use Rattle.receiver.specs.declared.Stepped.{Stepped}
 use Rattle.receiver.specs.States.{InRange, emptied}
-use Rattle.receiver.specs.Calls.{syn, four, silent, holding, oneMore, askedAgain, stepped}
+use Rattle.receiver.specs.Calls.{silent, listening, askedAgain, stepped}
 use Rattle.receiver.specs.Runs.{Event, byte, on, off, ask, obey, run, Sent, sentBy, sent}
 use Rattle.receiver.specs.Page.{
   nothing,
@@ -30,7 +35,7 @@ use Rattle.receiver.specs.Page.{
   idle,
   midway,
   awaiting,
-  Ends,
+ 
   Says,
   plain,
   held,
@@ -50,13 +55,12 @@ use Rattle.receiver.specs.Page.{
   standOf,
   Stands,
 }
-use Rattle.receiver.proofs.Ranges.{number-in, count-in, seen-in}
+use Rattle.receiver.proofs.Ranges.{count-in, seen-in}
 use Rattle.receiver.proofs.Cases.{again-in}
 use Rattle.receiver.proofs.Shape as shapes
 use Rattle.receiver.proofs.Shape.{Shape, shape, arrived, grown}
 use Rattle.receiver.proofs.Kept.{on-afresh, off-afresh, keeps}
 use Rattle.receiver.proofs.Outgoing.{sent-accepted}
-use Rattle.receiver.proofs.Seen.{seenAfter, seenIn, seen-snoc, seen-syns, syn-four, ends-last, last-ends}
 
 -- ---- a phase is one phase
 
@@ -73,7 +77,7 @@ seenOf Off = 0
 seenOf Collecting = 0
 seenOf (Waiting n) = n
 
-pub same-seen : {n m : ℕ} → Waiting n ≡ Waiting m → n ≡ m
+same-seen : {n m : ℕ} → Waiting n ≡ Waiting m → n ≡ m
 unfolding seenOf
 same-seen e = ap seenOf e
 
@@ -111,9 +115,7 @@ from-idle r b a (shapes.plain f) = (idle, plain, a)
 from-idle r b a (shapes.more f k) = other-phase Collecting Off f a refl
 from-idle r b a (shapes.took f k C o) = other-phase Collecting Off f a refl
 from-idle r b a (shapes.none f k o) = other-phase Collecting Off f a refl
-from-idle r b a (shapes.heard n f e) = other-phase (Waiting n) Off f a refl
-from-idle r b a (shapes.resumed f e) = other-phase (Waiting 2) Off f a refl
-from-idle r b a (shapes.dropped n f ne nf) = other-phase (Waiting n) Off f a refl
+from-idle r b a (shapes.listens n f) = other-phase (Waiting n) Off f a refl
 
 -- the bytes of the stretch with one more, at the seventeenth
 pub arrived-is : (r : Receiver) (b : ℕ) (h : List ℕ) → take (r .count) (r .held) ≡ h → r .count ≡ 16
@@ -149,50 +151,43 @@ from-midway r b x h g a (shapes.none f k o) = (
       (refused (sym (a .2) ∙ k) (subst NoneNear (arrived-is r b h (a .3) k) o)),
   (ap Waiting (sym (seen-syns 0 (omega arith))), a .1),
 )
-from-midway r b x h g a (shapes.heard n f e) = other-phase (Waiting n) Collecting f (a .0) refl
-from-midway r b x h g a (shapes.resumed f e) = other-phase (Waiting 2) Collecting f (a .0) refl
-from-midway r b x h g a (shapes.dropped n f ne nf) = other-phase (Waiting n) Collecting f (a .0) refl
+from-midway r b x h g a (shapes.listens n f) = other-phase (Waiting n) Collecting f (a .0) refl
 
-from-awaiting : (r : Receiver) (b x : ℕ) (ws : List ℕ) → InRange r → At r (awaiting x ws) → {c : Stepped}
-    → Shape r b c → Followed (awaiting x ws) (byte b) c
-from-awaiting r b x ws g a (shapes.plain f) = other-phase Off (Waiting (seenIn ws)) f (a .0) refl
-from-awaiting r b x ws g a (shapes.more f k) = other-phase Collecting (Waiting (seenIn ws)) f (a .0) refl
-from-awaiting r b x ws g a (shapes.took f k C o) = other-phase Collecting (Waiting (seenIn ws)) f (a .0) refl
-from-awaiting r b x ws g a (shapes.none f k o) = other-phase Collecting (Waiting (seenIn ws)) f (a .0) refl
-from-awaiting r b x ws g a (shapes.heard n f e) =
-    let lt : x < 16 = subst (λ (m : ℕ). m < 16) (a .1) (number-in r (g .range)) in (
-      awaiting x (ws ++ (b ∷ [])),
-      dropped (λ d. syn-four x lt (sym e ∙ ends-last x ws b d .1)),
-      (
-        ap Waiting
-            (ap oneMore (same-seen (sym f ∙ a .0))
-            ∙ ap (λ (t : Bool). cond t (oneMore (seenIn ws)) 0) (sym (eq-eqb b syn e))
-            ∙ sym (seen-snoc ws b)),
-        a .1,
-      ),
-    )
-from-awaiting r b x ws g a (shapes.resumed f e) = (
-  midway x [],
-  resumed (last-ends x ws b (same-seen (sym (a .0) ∙ f)) (e ∙ ap four (a .1))),
-  (refl, a .1, refl, refl),
-)
-from-awaiting r b x ws g a (shapes.dropped n f ne nf) = (
-  awaiting x (ws ++ (b ∷ [])),
-  dropped (λ d. let p = ends-last x ws b d in
-      nf (same-seen (sym f ∙ a .0) ∙ p .0) (p .1 ∙ ap four (sym (a .1)))),
-  (
-    ap Waiting
-        (ap (λ (t : Bool). cond t (oneMore (seenIn ws)) 0) (sym (ne-eqb b syn ne)) ∙ sym (seen-snoc ws b)),
-    a .1,
-  ),
-)
+heard-from : (r : Receiver) (b x : ℕ) (ws : List ℕ) → At r (awaiting x ws)
+    → Followed (awaiting x ws) (byte b) (silent (listening (listened x (seenIn ws) b) r))
+heard-from r b x ws a = by (heard x ws b)
+  where
+    by : (Ends x (ws ++ (b ∷ [])) × (listened x (seenIn ws) b ≡ Resumed))
+        ⊎ ((Ends x (ws ++ (b ∷ [])) → ⊥) × (listened x (seenIn ws) b ≡ Seen (seenIn (ws ++ (b ∷ [])))))
+        → Followed (awaiting x ws) (byte b) (silent (listening (listened x (seenIn ws) b) r))
+    by (inl p) =
+        subst⁻¹ (λ (l : Listened). Followed (awaiting x ws) (byte b) (silent (listening l r))) (p .1)
+        (midway x [], resumed (p .0), (refl, a .1, refl, refl))
+    by (inr p) =
+        subst⁻¹ (λ (l : Listened). Followed (awaiting x ws) (byte b) (silent (listening l r))) (p .1)
+        (awaiting x (ws ++ (b ∷ [])), dropped (p .0), (refl, a .1))
+
+pub same-listened : (r : Receiver) (b x n : ℕ) (ws : List ℕ) → At r (awaiting x ws) → r .phase ≡ Waiting n
+    → listened (r .number) n b ≡ listened x (seenIn ws) b
+same-listened r b x n ws a f =
+    ap₂ (λ (y m : ℕ). listened y m b) (a .1) (same-seen (sym f ∙ a .0))
+
+from-awaiting : (r : Receiver) (b x : ℕ) (ws : List ℕ) → At r (awaiting x ws) → {c : Stepped} → Shape r b c
+    → Followed (awaiting x ws) (byte b) c
+from-awaiting r b x ws a (shapes.plain f) = other-phase Off (Waiting (seenIn ws)) f (a .0) refl
+from-awaiting r b x ws a (shapes.more f k) = other-phase Collecting (Waiting (seenIn ws)) f (a .0) refl
+from-awaiting r b x ws a (shapes.took f k C o) = other-phase Collecting (Waiting (seenIn ws)) f (a .0) refl
+from-awaiting r b x ws a (shapes.none f k o) = other-phase Collecting (Waiting (seenIn ws)) f (a .0) refl
+from-awaiting r b x ws a (shapes.listens n f) =
+    subst⁻¹ (λ (l : Listened). Followed (awaiting x ws) (byte b) (silent (listening l r)))
+    (same-listened r b x n ws a f) (heard-from r b x ws a)
 
 -- ---- any event
 
 byte-follows : (r : Receiver) (b : ℕ) (s : Stand) → InRange r → At r s → Followed s (byte b) (stepped r b)
 byte-follows r b idle g a = from-idle r b a (shape r b g)
 byte-follows r b (midway x h) g a = from-midway r b x h g a (shape r b g)
-byte-follows r b (awaiting x ws) g a = from-awaiting r b x ws g a (shape r b g)
+byte-follows r b (awaiting x ws) g a = from-awaiting r b x ws a (shape r b g)
 
 ask-follows : (r : Receiver) (s : Stand) → InRange r → At r s → Followed s ask (askedAgain r)
 ask-follows r idle g a = subst (Followed idle ask) (again-in r Off (g .range) a) (idle, idleAsk, a)

@@ -5,19 +5,24 @@ use mathlib.Core.List.{List, [], _∷_, _++_}
 use Prim.Native.Nat.{ℕ, _+_, _%_, _<_}
 use native.Mathlib.Nat.{mod-lt, zero-lt-suc}
 use native.Mathlib.Omega.{arith}
-use lib.Dec.{ltb}
 use lib.ListN.{length-set}
-use borrow.Author.Tests.{lt-ltb, ltb-true}
+use borrow.Author.Tests.{lt-ltb}
+use Rattle.codes.specs.declared.Listened.{Listened}
+use Rattle.codes.specs.declared.Listened.the-variants.{Seen, Resumed}
+use Rattle.codes.specs.Codes.{listened}
+use Rattle.codes.proofs.Seen.{SeenBelow, listened-lt}
 use Rattle.receiver.specs.declared.Phase.{Phase}
 use Rattle.receiver.specs.declared.Phase.the-variants.{Off, Collecting, Waiting}
 use Rattle.receiver.specs.declared.Receiver.{Receiver}
 use Rattle.receiver.specs.declared.Stepped.{Stepped}
 use Rattle.receiver.specs.States.{seenInRange, inRange, InRange, emptied, newReceiver}
-use Rattle.receiver.specs.Calls.{silent, refused, holding, waiting, oneMore, byPhase, switchedOn, switchedOff, againBy, askedAgain}
+use Rattle.receiver.specs.Calls.{
+  silent, refused, holding, waiting, listening, switchedOn, switchedOff, againBy, askedAgain
+}
 use Rattle.receiver.specs.Runs.{Event, byte, on, off, ask, obey, run, Sent, sentBy, sent}
 use Rattle.receiver.proofs.Ranges.{in-range, number-in, count-in, seen-in}
 use Rattle.receiver.proofs.Cases.{again-in}
-use Rattle.receiver.proofs.Shape.{Shape, plain, more, took, none, heard, resumed, dropped, shape}
+use Rattle.receiver.proofs.Shape.{Shape, plain, more, took, none, listens, shape}
 
 -- ---- a byte
 
@@ -27,12 +32,16 @@ emptied-in x p h s = record { range = in-range (emptied x p) h (omega arith) s; 
 pub new-in : InRange newReceiver
 new-in = emptied-in 0 Off (omega arith) refl
 
-one-more-lt : (n : ℕ) → oneMore n < 3
-one-more-lt n = go (ltb n 2) refl
+listened-in : (r : Receiver) (x n b : ℕ) → InRange r → InRange (listening (listened x n b) r)
+listened-in r x n b g = by (listened x n b) (listened-lt x n b)
   where
-    go : (t : Bool) → ltb n 2 ≡ t → cond t (n + 1) 2 < 3
-    go true e = let h : n < 2 = ltb-true n 2 e in omega arith
-    go false e = omega arith
+    by : (l : Listened) → SeenBelow 3 l → InRange (listening l r)
+    by (Seen m) h =
+        record {
+          range = in-range (waiting r m) (number-in r (g .range)) (count-in r (g .range)) (lt-ltb m 3 h);
+          array = g .array;
+        }
+    by Resumed h = emptied-in (r .number) Collecting (number-in r (g .range)) refl
 
 byte-keeps : (r : Receiver) (b : ℕ) → InRange r → {s : Stepped} → Shape r b s → InRange (s .next)
 byte-keeps r b g (plain f) = g
@@ -44,16 +53,7 @@ byte-keeps r b g (more f k) =
 byte-keeps r b g (took f k C o) =
     emptied-in ((r .number + 1) % 16) Collecting (mod-lt (r .number + 1) (zero-lt-suc 15)) refl
 byte-keeps r b g (none f k o) = emptied-in (r .number) (Waiting 0) (number-in r (g .range)) refl
-byte-keeps r b g (heard n f e) =
-    record {
-      range =
-          in-range (waiting r (oneMore n)) (number-in r (g .range)) (count-in r (g .range))
-          (lt-ltb (oneMore n) 3 (one-more-lt n));
-      array = g .array;
-    }
-byte-keeps r b g (resumed f e) = emptied-in (r .number) Collecting (number-in r (g .range)) refl
-byte-keeps r b g (dropped n f ne nf) =
-    record { range = in-range (waiting r 0) (number-in r (g .range)) (count-in r (g .range)) refl; array = g .array }
+byte-keeps r b g (listens n f) = listened-in r (r .number) n b g
 
 -- ---- the calls of the host
 

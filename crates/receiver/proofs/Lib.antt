@@ -5,7 +5,6 @@ pub mod Kept
 pub mod Outgoing
 pub mod Counted
 pub mod Asked
-pub mod Seen
 pub mod Followed
 pub mod Once
 pub mod Waits

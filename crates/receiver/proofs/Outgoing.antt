@@ -2,14 +2,14 @@
 use mathlib.Core.Path.{_≡_, refl, sym, ap, _∙_, subst, subst⁻¹}
 use mathlib.Core.Bool.{Bool, true, false, cond, not}
 use mathlib.Core.List.{List, [], _∷_, _++_}
-use Prim.Native.Nat.{ℕ, zero, suc, _-_, _%_, _<_}
-use native.Mathlib.Nat.{mod-lt, zero-lt-suc}
+use Prim.Native.Nat.{ℕ, zero, suc, _-_, _<_}
 use native.Mathlib.Omega.{arith}
 use lib.Dec.{ltb}
 use lib.ListN.{length, replicate}
 use lib.Seq.{take-at}
 use Rattle.numbers.specs.Numbers.{numberOf}
-use Rattle.parity.specs.Parity.{even}
+use Rattle.codes.specs.Codes.{plainly}
+use Rattle.codes.proofs.Seen.{plain-lt}
 use Rattle.validity.proofs.Validity.{valid-length}
 use Rattle.maker.specs.Making.{Values, valuesOf}
 use Rattle.maker.proofs.Blocks.{values-length, values-low}
@@ -24,21 +24,11 @@ use Rattle.receiver.specs.declared.Judged.the-variants.{Block}
 use Rattle.receiver.specs.declared.Stepped.{Stepped}
 use Rattle.receiver.specs.States.{inRange, InRange, emptied, callConditions}
 use Rattle.receiver.specs.Calls.{
-  silent,
-  refused,
-  plainly,
-  holding,
-  whole,
-  accepted,
-  repeated,
-  accepts,
-  judgedHeld,
-  byPhase,
-  againBy,
+  silent, refused, holding, whole, accepted, repeated, accepts, judgedHeld, byPhase, againBy
 }
 use Rattle.receiver.specs.Runs.{Event, byte, on, off, ask, obey, Sent, sentBy}
 use Rattle.receiver.specs.Page.{passes}
-use Rattle.receiver.proofs.Shape.{Shape, plain, more, took, none, heard, resumed, dropped, shape, arrived}
+use Rattle.receiver.proofs.Shape.{Shape, plain, more, took, none, listens, shape, arrived}
 use Rattle.receiver.proofs.Kept.{on-afresh, off-afresh, again-as}
 
 -- ---- fifteen values
@@ -106,13 +96,6 @@ Fits s = (s .answer ≡ 0) × Values (sentBy s .passed)
 none-fit : Values []
 none-fit i h = omega (arith, h)
 
-plain-lt : (b : ℕ) → plainly b < 128
-plain-lt b = go (even b)
-  where
-    go : (t : Bool) → cond t (b % 128) 127 < 128
-    go true = mod-lt b (zero-lt-suc 127)
-    go false = omega arith
-
 one-fits : (v : ℕ) → v < 128 → Values (v ∷ [])
 one-fits v h zero k = h
 one-fits v h (suc i) k = omega (arith, k)
@@ -123,9 +106,7 @@ byte-fits r b (more f k) = (refl, none-fit)
 byte-fits r b (took f k C o) =
     (refl, subst⁻¹ Values (ap (λ (o : Sent). o .passed) (sent-accepted (r .number) (valuesOf C) (verdict (arrived r b)))) (values-low C))
 byte-fits r b (none f k o) = (refl, none-fit)
-byte-fits r b (heard n f e) = (refl, none-fit)
-byte-fits r b (resumed f e) = (refl, none-fit)
-byte-fits r b (dropped n f ne nf) = (refl, none-fit)
+byte-fits r b (listens n f) = (refl, none-fit)
 
 again-fits : (r : Receiver) (p : Phase) → Fits (againBy p r)
 again-fits r Off = (refl, none-fit)

@@ -1,12 +1,15 @@
 -- The places past the bytes held never matter. Assumes nothing.
 use mathlib.Core.Path.{_≡_, refl, sym, ap, _∙_, subst, subst⁻¹}
-use mathlib.Core.Bool.{Bool, true, false, cond, _&&_}
+use mathlib.Core.Bool.{Bool, true, false, cond}
 use mathlib.Core.List.{List, [], _∷_, _++_}
 use Prim.Native.Nat.{ℕ, _≤_, _<_}
 use native.Mathlib.Omega.{arith}
-use lib.Dec.{ltb, eqb}
+use lib.Dec.{ltb}
 use lib.ListN.{length, take, length-set}
 use borrow.Author.Tests.{ltb-true, ltb-false}
+use Rattle.codes.specs.declared.Listened.{Listened}
+use Rattle.codes.specs.declared.Listened.the-variants.{Seen, Resumed}
+use Rattle.codes.specs.Codes.{plainly, request, listened}
 use Rattle.maker.specs.Making.{valuesOf}
 use Rattle.reader.specs.declared.Verdict.{Verdict}
 use Rattle.reader.specs.Judging.{verdict, left}
@@ -18,26 +21,8 @@ use Rattle.receiver.specs.declared.Judged.the-variants.{Nothing, Block}
 use Rattle.receiver.specs.declared.Stepped.{Stepped}
 use Rattle.receiver.specs.States.{inRange, emptied}
 use Rattle.receiver.specs.Calls.{
-  syn,
-  four,
-  request,
-  giving,
-  silent,
-  refused,
-  plainly,
-  holding,
-  whole,
-  accepted,
-  repeated,
-  accepts,
-  judgedAs,
-  judgedHeld,
-  collecting,
-  waiting,
-  oneMore,
-  listening,
-  byPhase,
-  againBy,
+  giving, silent, refused, holding, whole, accepted, repeated, accepts, judgedAs, judgedHeld, collecting, waiting, listening,
+  byPhase, againBy
 }
 use Rattle.receiver.specs.Runs.{Event, byte, on, off, ask, obey, run}
 use Rattle.receiver.specs.Alike.{Alike, AlikeSteps}
@@ -104,20 +89,14 @@ module _ (r : Receiver) (l : List ℕ) (a : Alike r (with-held r l)) where
   waiting-alike : (n : ℕ) → Alike (waiting r n) (waiting q n)
   waiting-alike n = record { arrays = a .arrays; count = refl; held = a .held; number = refl; phase = refl }
 
-  listening-alike : (n b : ℕ) → Alike (listening r n b) (listening q n b)
-  listening-alike n b = go (eqb b syn) (eqb n 2 && eqb b (four (r .number)))
-    where
-      go : (t u : Bool)
-          → Alike (cond t (waiting r (oneMore n)) (cond u (emptied (r .number) Collecting) (waiting r 0)))
-          (cond t (waiting q (oneMore n)) (cond u (emptied (r .number) Collecting) (waiting q 0)))
-      go true u = waiting-alike (oneMore n)
-      go false true = emptied-alike (r .number) Collecting
-      go false false = waiting-alike 0
+  listening-alike : (h : Listened) → Alike (listening h r) (listening h q)
+  listening-alike (Seen n) = waiting-alike n
+  listening-alike Resumed = emptied-alike (r .number) Collecting
 
   byte-alike : (b : ℕ) (p : Phase) → r .count < 17 → AlikeSteps (byPhase p r b) (byPhase p q b)
   byte-alike b Off h = giving-alike 0 (plainly b ∷ []) [] Nothing a
   byte-alike b Collecting h = collecting-alike b h
-  byte-alike b (Waiting n) h = giving-alike 0 [] [] Nothing (listening-alike n b)
+  byte-alike b (Waiting n) h = giving-alike 0 [] [] Nothing (listening-alike (listened (r .number) n b))
 
   again-alike : (p : Phase) → AlikeSteps (againBy p r) (againBy p q)
   again-alike Off = giving-alike 0 [] [] Nothing a

@@ -70,9 +70,7 @@ module _ (r : Receiver) (b x : ℕ) (h : List ℕ) (a : At r (midway x h)) (k : 
       ∙ ap (λ (A : List ℕ). accepted x (valuesOf A) (verdict (h ++ (b ∷ []))))
       (same-block (subst (λ (A : List ℕ). OnlyNear A D) e p) o)
   takes (shapes.none f c n) C o = absurd (not-both o (subst NoneNear (arrived-is r b h (a .3) c) n))
-  takes (shapes.heard n f c) C o = other-phase (Waiting n) Collecting f (a .0) refl
-  takes (shapes.resumed f c) C o = other-phase (Waiting 2) Collecting f (a .0) refl
-  takes (shapes.dropped n f c d) C o = other-phase (Waiting n) Collecting f (a .0) refl
+  takes (shapes.listens n f) C o = other-phase (Waiting n) Collecting f (a .0) refl
 
   asks-for : {c : Stepped} → Shape r b c → NoneNear (h ++ (b ∷ [])) → c ≡ repeated x Repeat
   asks-for (shapes.plain f) n = other-phase Off Collecting f (a .0) refl
@@ -80,9 +78,7 @@ module _ (r : Receiver) (b x : ℕ) (h : List ℕ) (a : At r (midway x h)) (k : 
   asks-for (shapes.took f c D p) n =
       absurd (not-both (subst (λ (A : List ℕ). OnlyNear A D) (arrived-is r b h (a .3) c) p) n)
   asks-for (shapes.none f c o) n = ap (λ (m : ℕ). repeated m Repeat) (a .1)
-  asks-for (shapes.heard m f c) n = other-phase (Waiting m) Collecting f (a .0) refl
-  asks-for (shapes.resumed f c) n = other-phase (Waiting 2) Collecting f (a .0) refl
-  asks-for (shapes.dropped m f c d) n = other-phase (Waiting m) Collecting f (a .0) refl
+  asks-for (shapes.listens m f) n = other-phase (Waiting m) Collecting f (a .0) refl
 
 -- ---- seventeen
 

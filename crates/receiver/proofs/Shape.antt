@@ -1,15 +1,16 @@
--- What one byte can do to a receiver in range, as seven shapes: the laws of runs go by these. Assumes nothing.
+-- What one byte can do to a receiver in range, as five shapes: the laws of runs go by these. Assumes nothing.
 use mathlib.Core.Path.{_≡_, refl, sym, ap, _∙_, subst, subst⁻¹}
-use mathlib.Core.Bool.{Bool, true, false, cond, _&&_}
+use mathlib.Core.Bool.{Bool, true, false, cond}
 use mathlib.Core.List.{List, _++_, _∷_, []}
 use Prim.Native.Nat.{ℕ, _+_, _≤_, _<_}
 use native.Mathlib.Numerals.{add-one}
 use native.Mathlib.Omega.{arith}
-use lib.Dec.{T, ltb, eqb}
+use lib.Dec.{ltb}
 use lib.ListN.{length, take, set, length-set}
 use lib.Seq.{take-suc-set, take-all}
-use borrow.Author.Tests.{ltb-true, ltb-false, eqb-true, eqb-false, eq-eqb}
-use Rattle.laws.proofs.Computed.{and-left, and-right, both, is-true, holds, fails}
+use borrow.Author.Tests.{ltb-true, ltb-false}
+use Rattle.laws.proofs.Computed.{holds, fails}
+use Rattle.codes.specs.Codes.{plainly, listened}
 use Rattle.maker.specs.Making.{valuesOf}
 use Rattle.reader.specs.declared.Verdict.{Verdict}
 use Rattle.reader.specs.declared.Verdict.the-variants.{Clean, Mended, Repeat, WrongLength}
@@ -20,26 +21,9 @@ use Rattle.receiver.specs.declared.Phase.{Phase}
 use Rattle.receiver.specs.declared.Phase.the-variants.{Off, Collecting, Waiting}
 use Rattle.receiver.specs.declared.Receiver.{Receiver}
 use Rattle.receiver.specs.declared.Stepped.{Stepped}
-use Rattle.receiver.specs.States.{InRange, emptied}
+use Rattle.receiver.specs.States.{InRange}
 use Rattle.receiver.specs.Calls.{
-  syn,
-  four,
-  silent,
-  passing,
-  plainly,
-  holding,
-  whole,
-  accepted,
-  repeated,
-  accepts,
-  judgedAs,
-  judgedHeld,
-  collecting,
-  waiting,
-  oneMore,
-  listening,
-  byPhase,
-  stepped,
+  silent, passing, holding, whole, accepted, repeated, accepts, judgedAs, judgedHeld, collecting, listening, byPhase, stepped
 }
 use Rattle.receiver.proofs.Ranges.{count-in}
 use Rattle.receiver.proofs.Cases.{step-in}
@@ -54,10 +38,7 @@ pub data Shape (r : Receiver) (b : ℕ) : Stepped → Type 0 where
   took : r .phase ≡ Collecting → r .count ≡ 16 → (C : List ℕ) → OnlyNear (arrived r b) C
       → Shape r b (accepted (r .number) (valuesOf C) (verdict (arrived r b)))
   none : r .phase ≡ Collecting → r .count ≡ 16 → NoneNear (arrived r b) → Shape r b (repeated (r .number) Repeat)
-  heard : (n : ℕ) → r .phase ≡ Waiting n → b ≡ syn → Shape r b (silent (waiting r (oneMore n)))
-  resumed : r .phase ≡ Waiting 2 → b ≡ four (r .number) → Shape r b (silent (emptied (r .number) Collecting))
-  dropped : (n : ℕ) → r .phase ≡ Waiting n → (b ≡ syn → ⊥) → (n ≡ 2 → b ≡ four (r .number) → ⊥)
-      → Shape r b (silent (waiting r 0))
+  listens : (n : ℕ) → r .phase ≡ Waiting n → Shape r b (silent (listening (listened (r .number) n b) r))
 
 -- ---- what is held with one byte more
 
@@ -112,33 +93,10 @@ module _ (r : Receiver) (b : ℕ) (g : InRange r) where
           let k : r .count < 17 = count-in r (g .range) in
           at-last f (omega arith)
 
-  abbrev ends : ℕ → Bool
-  ends n = eqb n 2 && eqb b (four (r .number))
-
-  at-waiting : (n : ℕ) → r .phase ≡ Waiting n → Shape r b (silent (listening r n b))
-  at-waiting n f = go (eqb b syn) refl
-    where
-      other : (t : Bool) → (b ≡ syn → ⊥) → ends n ≡ t
-          → Shape r b (silent (cond t (emptied (r .number) Collecting) (waiting r 0)))
-      other true ne e =
-          resumed
-          (f ∙ ap Waiting (eqb-true n 2 (is-true (eqb n 2) (and-left (eqb n 2) (eqb b (four (r .number))) (holds e)))))
-          (eqb-true b (four (r .number))
-          (is-true (eqb b (four (r .number))) (and-right (eqb n 2) (eqb b (four (r .number))) (holds e))))
-      other false ne e =
-          dropped n f ne
-          (λ p q. fails e
-          (both (eqb n 2) (eqb b (four (r .number))) (holds (eq-eqb n 2 p)) (holds (eq-eqb b (four (r .number)) q))))
-
-      go : (t : Bool) → eqb b syn ≡ t
-          → Shape r b (silent (cond t (waiting r (oneMore n)) (cond (ends n) (emptied (r .number) Collecting) (waiting r 0))))
-      go true e = heard n f (eqb-true b syn e)
-      go false e = other (ends n) (eqb-false b syn e) refl
-
   by-phase : (p : Phase) → r .phase ≡ p → Shape r b (byPhase p r b)
   by-phase Off f = plain f
   by-phase Collecting f = at-collecting f
-  by-phase (Waiting n) f = at-waiting n f
+  by-phase (Waiting n) f = listens n f
 
   pub shape : Shape r b (stepped r b)
   shape = subst (Shape r b) (step-in r (r .phase) (g .range) refl b) (by-phase (r .phase) refl)

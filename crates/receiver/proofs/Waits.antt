@@ -5,12 +5,15 @@ use mathlib.Core.List.{List, [], _∷_, _++_, map, append-assoc, append-nil}
 use Prim.Native.Nat.{ℕ, _<_}
 use lib.ListN.{replicate}
 use Rattle.laws.proofs.Computed.{fails, holds}
+use Rattle.codes.specs.declared.Listened.{Listened}
+use Rattle.codes.specs.Codes.{syn, Ends, Nowhere}
+use Rattle.codes.proofs.Seen.{seenIn, seen-syns, ended, never}
 use Rattle.receiver.specs.declared.Phase.the-variants.{Off, Collecting, Waiting}
 use Rattle.receiver.specs.declared.Receiver.{Receiver}
 use Rattle.receiver.specs.declared.Judged.the-variants.{Nothing}
 use Rattle.receiver.specs.declared.Stepped.{Stepped}
 use Rattle.receiver.specs.States.{InRange, emptied}
-use Rattle.receiver.specs.Calls.{syn, four, silent, stepped}
+use Rattle.receiver.specs.Calls.{silent, listening, stepped}
 use Rattle.receiver.specs.Runs.{
   Event,
   byte,
@@ -25,45 +28,28 @@ use Rattle.receiver.specs.Runs.{
   unswitched,
   bytesOf,
 }
-use Rattle.receiver.specs.Page.{
-  nothing,
-  asks,
-  whileWaiting,
-  Stand,
-  awaiting,
-  Ends,
-  Nowhere,
-  Says,
-  dropped,
-  resumed,
-  again,
-  IsWaiting,
-}
-use Rattle.receiver.proofs.Ranges.{number-in, seen-in}
+use Rattle.receiver.specs.Page.{nothing, asks, whileWaiting, Stand, awaiting, Says, dropped, resumed, again, IsWaiting}
+use Rattle.receiver.proofs.Ranges.{seen-in}
 use Rattle.receiver.proofs.Shape as shapes
 use Rattle.receiver.proofs.Shape.{Shape, shape}
 use Rattle.receiver.proofs.Kept.{keeps, runs-keep}
-use Rattle.receiver.proofs.Seen.{seenIn, seen-syns, syn-four, ends-last, never}
-use Rattle.receiver.proofs.Followed.{other-phase, same-seen, At, Followed, follows-one}
+use Rattle.receiver.proofs.Followed.{other-phase, At, same-listened, follows-one}
 
 -- ---- the byte that ends it
 
-ends-it : (r : Receiver) (b x : ℕ) (ws : List ℕ) → InRange r → At r (awaiting x ws) → Ends x (ws ++ (b ∷ []))
+ends-it : (r : Receiver) (b x : ℕ) (ws : List ℕ) → At r (awaiting x ws) → Ends x (ws ++ (b ∷ []))
     → {c : Stepped} → Shape r b c → c ≡ silent (emptied x Collecting)
-ends-it r b x ws g a d (shapes.plain f) = other-phase Off (Waiting (seenIn ws)) f (a .0) refl
-ends-it r b x ws g a d (shapes.more f k) = other-phase Collecting (Waiting (seenIn ws)) f (a .0) refl
-ends-it r b x ws g a d (shapes.took f k C o) = other-phase Collecting (Waiting (seenIn ws)) f (a .0) refl
-ends-it r b x ws g a d (shapes.none f k o) = other-phase Collecting (Waiting (seenIn ws)) f (a .0) refl
-ends-it r b x ws g a d (shapes.heard n f e) =
-    absurd (syn-four x (subst (λ (m : ℕ). m < 16) (a .1) (number-in r (g .range))) (sym e ∙ ends-last x ws b d .1))
-ends-it r b x ws g a d (shapes.resumed f e) = ap (λ (n : ℕ). silent (emptied n Collecting)) (a .1)
-ends-it r b x ws g a d (shapes.dropped n f ne nf) =
-    let p = ends-last x ws b d in
-    absurd (nf (same-seen (sym f ∙ a .0) ∙ p .0) (p .1 ∙ ap four (sym (a .1))))
+ends-it r b x ws a d (shapes.plain f) = other-phase Off (Waiting (seenIn ws)) f (a .0) refl
+ends-it r b x ws a d (shapes.more f k) = other-phase Collecting (Waiting (seenIn ws)) f (a .0) refl
+ends-it r b x ws a d (shapes.took f k C o) = other-phase Collecting (Waiting (seenIn ws)) f (a .0) refl
+ends-it r b x ws a d (shapes.none f k o) = other-phase Collecting (Waiting (seenIn ws)) f (a .0) refl
+ends-it r b x ws a d (shapes.listens n f) =
+    ap (λ (l : Listened). silent (listening l r)) (same-listened r b x n ws a f ∙ ended x ws b d)
+    ∙ ap (λ (m : ℕ). silent (emptied m Collecting)) (a .1)
 
 pub resumes : (r : Receiver) (b x : ℕ) (ws : List ℕ) → InRange r → At r (awaiting x ws) → Ends x (ws ++ (b ∷ []))
     → stepped r b ≡ silent (emptied x Collecting)
-resumes r b x ws g a d = ends-it r b x ws g a d (shape r b g)
+resumes r b x ws g a d = ends-it r b x ws a d (shape r b g)
 
 -- ---- the events before it
 

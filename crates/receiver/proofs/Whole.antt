@@ -12,6 +12,8 @@ use Rattle.validity.specs.Changed.{flip, Near, same, changed}
 use Rattle.validity.specs.Block.{Valid}
 use Rattle.validity.proofs.Flips.{flip-length}
 use Rattle.validity.proofs.Validity.{valid-length}
+use Rattle.codes.specs.Codes.{syn, four, request, Nowhere}
+use Rattle.codes.proofs.Seen.{seen-syns, nowhere-syn}
 use Rattle.maker.specs.Making.{Values, blockOf, valuesOf}
 use Rattle.maker.proofs.Blocks.{made-valid, values-back}
 use Rattle.reader.specs.declared.Verdict.the-variants.{Repeat}
@@ -23,7 +25,7 @@ use Rattle.receiver.specs.declared.Receiver.{Receiver}
 use Rattle.receiver.specs.declared.Judged.the-variants.{Block}
 use Rattle.receiver.specs.declared.Stepped.{Stepped}
 use Rattle.receiver.specs.States.{InRange, emptied}
-use Rattle.receiver.specs.Calls.{syn, four, request, padded, silent, stepped, switchedOn}
+use Rattle.receiver.specs.Calls.{padded, silent, stepped}
 use Rattle.receiver.specs.Runs.{
   Event,
   byte,
@@ -38,10 +40,9 @@ use Rattle.receiver.specs.Runs.{
   unswitched,
   bytesOf,
 }
-use Rattle.receiver.specs.Page.{passes, asks, atLast, whileWaiting, awaiting, Ends, Nowhere}
+use Rattle.receiver.specs.Page.{whileWaiting, awaiting}
 use Rattle.receiver.specs.Line.{blocksFor, fifteens, madeOf, filled, Arrives, nothingMore, blockThen}
 use Rattle.receiver.proofs.Kept.{on-afresh, emptied-in, runs-keep, run-append, sent-append}
-use Rattle.receiver.proofs.Seen.{seen-syns, nowhere-syn}
 use Rattle.receiver.proofs.Followed.{At}
 use Rattle.receiver.proofs.Waits.{resumes, waits-on}
 use Rattle.receiver.proofs.Seventeen.{block-passes, block-asked}
@@ -179,7 +180,7 @@ module _ (x : ℕ) (h : x < 16) where
       → Hears (emptied x (Waiting 0)) (ws ++ (syn ∷ []) ++ (syn ∷ []) ++ (four x ∷ [])) [] [] (emptied x Collecting)
   resumption-heard ws n =
       let us : List ℕ = ws ++ (syn ∷ []) ++ (syn ∷ []) in
-      let m : Nowhere x us = nowhere-syn x (ws ++ (syn ∷ [])) h (nowhere-syn x ws h n) in
+      let m : Nowhere x us = nowhere-syn x (ws ++ (syn ∷ [])) (nowhere-syn x ws n) in
       let q : Receiver = run (emptied x (Waiting 0)) (map byte us) in
       let e : stepped q (four x) ≡ silent (emptied x Collecting) =
       resumes q (four x) x us (runs-keep (map byte us) (emptied x (Waiting 0)) (begun .0)) (dropped us m .0)

@@ -1,10 +1,12 @@
 -- What each call does to a receiver, and all that goes out (01, "The receiver"). Assumes nothing.
 use Prim.Native.Nat.{ℕ, _+_, _-_, _%_}
-use mathlib.Core.Bool.{Bool, true, false, cond, _&&_}
+use mathlib.Core.Bool.{Bool, true, false, cond}
 use mathlib.Core.List.{List, [], _∷_, _++_}
-use lib.Dec.{ltb, eqb}
+use lib.Dec.{ltb}
 use lib.ListN.{length, set, replicate}
-use Rattle.parity.specs.Parity.{even, withParity}
+use Rattle.codes.specs.declared.Listened.{Listened}
+use Rattle.codes.specs.declared.Listened.the-variants.{Seen, Resumed}
+use Rattle.codes.specs.Codes.{plainly, request, listened}
 use Rattle.maker.specs.Making.{valuesOf}
 use Rattle.reader.specs.declared.Verdict.{Verdict}
 use Rattle.reader.specs.declared.Verdict.the-variants.{Clean, Mended, Repeat, WrongLength}
@@ -16,24 +18,6 @@ use Rattle.receiver.specs.declared.Judged.{Judged}
 use Rattle.receiver.specs.declared.Judged.the-variants.{Nothing, Block}
 use Rattle.receiver.specs.declared.Stepped.{Stepped}
 use Rattle.receiver.specs.States.{inRange, emptied}
-
--- ---- codes (001, sections 5-3-5 and 5-3-6); that they carry parity is a theorem
-
--- SYN (1/6) with parity
-abbrev pub syn : ℕ
-syn = 150
-
--- NACK (1/5) with parity
-abbrev pub nack : ℕ
-nack = 149
-
--- 4/X with parity
-abbrev pub four : ℕ → ℕ
-four x = withParity (64 + x)
-
--- "the request NACK (1/5), 4/X .., both with parity"
-abbrev pub request : ℕ → List ℕ
-request x = nack ∷ four x ∷ []
 
 -- ---- what a call hands back
 
@@ -62,15 +46,13 @@ silent r = giving 0 r [] [] Nothing
 abbrev pub refused : Receiver → Stepped
 refused r = giving 5 r [] [] Nothing
 
--- one value passes
+-- off: one value passes
 abbrev pub passing : Receiver → ℕ → Stepped
 passing r v = giving 0 r (v ∷ []) [] Nothing
 
--- ---- off
-
--- "each byte is passed on with parity removed; a byte of odd parity passes as 7/F"
-abbrev pub plainly : ℕ → ℕ
-plainly b = cond (even b) (b % 128) 127
+-- the request for the block awaited goes to the modem
+abbrev pub asking : Receiver → Stepped
+asking r = giving 0 r [] (request (r .number)) Nothing
 
 -- ---- collecting
 
@@ -116,23 +98,18 @@ collecting r b = cond (ltb (r .count) 16) (silent (holding r b)) (judgedHeld r b
 abbrev pub waiting : Receiver → ℕ → Receiver
 waiting r n = record { held = r .held; count = r .count; number = r .number; phase = Waiting n }
 
--- a SYN more: two at most count
-abbrev pub oneMore : ℕ → ℕ
-oneMore n = cond (ltb n 2) (n + 1) 2
-
--- "bytes are dropped until the last three since entering this phase are SYN (1/6), SYN, 4/X with parity. Then
--- collecting, nothing held or seen"
-abbrev pub listening : Receiver → ℕ → ℕ → Receiver
-listening r n b =
-    cond (eqb b syn) (waiting r (oneMore n))
-    (cond (eqb n 2 && eqb b (four (r .number))) (emptied (r .number) Collecting) (waiting r 0))
+-- "bytes are dropped until the last three .. are SYN (1/6), SYN, 4/X with parity. Then collecting, nothing held or
+-- seen"
+abbrev pub listening : Listened → Receiver → Receiver
+listening (Seen n) r = waiting r n
+listening Resumed r = emptied (r .number) Collecting
 
 -- ---- the four calls
 
 abbrev pub byPhase : Phase → Receiver → ℕ → Stepped
 byPhase Off r b = passing r (plainly b)
 byPhase Collecting r b = collecting r b
-byPhase (Waiting n) r b = silent (listening r n b)
+byPhase (Waiting n) r b = silent (listening (listened (r .number) n b) r)
 
 abbrev pub stepped : Receiver → ℕ → Stepped
 stepped r b = cond (inRange r) (byPhase (r .phase) r b) (refused r)
@@ -153,7 +130,7 @@ switchedOff r = switchedTo Off r
 abbrev pub againBy : Phase → Receiver → Stepped
 againBy Off r = silent r
 againBy Collecting r = silent r
-againBy (Waiting n) r = giving 0 r [] (request (r .number)) Nothing
+againBy (Waiting n) r = asking r
 
 abbrev pub askedAgain : Receiver → Stepped
 askedAgain r = cond (inRange r) (againBy (r .phase) r) (refused r)

@@ -5,6 +5,7 @@ use Prim.Native.Nat.{ℕ, _+_, _%_, _<_}
 use mathlib.Core.Path.{_≡_}
 use mathlib.Core.List.{List, [], _∷_, _++_}
 use lib.ListN.{length, take, replicate}
+use Rattle.codes.specs.Codes.{syn, plainly, request, Ends}
 use Rattle.maker.specs.Making.{valuesOf}
 use Rattle.reader.specs.declared.Verdict.the-variants.{Repeat}
 use Rattle.reader.specs.Judging.{verdict}
@@ -14,7 +15,6 @@ use Rattle.receiver.specs.declared.Phase.the-variants.{Off, Collecting, 
 use Rattle.receiver.specs.declared.Receiver.{Receiver}
 use Rattle.receiver.specs.declared.Judged.{Judged}
 use Rattle.receiver.specs.declared.Judged.the-variants.{Nothing, Block}
-use Rattle.receiver.specs.Calls.{syn, four, request, plainly}
 use Rattle.receiver.specs.Runs.{Event, byte, on, off, ask, Sent}
 
 -- ---- what goes out
@@ -53,14 +53,6 @@ pub data Stand : Type 0 where
   idle : Stand
   midway : ℕ → List ℕ → Stand
   awaiting : ℕ → List ℕ → Stand
-
--- "the last three since entering this phase are SYN (1/6), SYN, 4/X with parity"
-abbrev pub Ends : ℕ → List ℕ → Type 0
-Ends x ws = (us : List ℕ) × (ws ≡ us ++ (syn ∷ syn ∷ four x ∷ []))
-
--- these three stand nowhere in the bytes
-abbrev pub Nowhere : ℕ → List ℕ → Type 0
-Nowhere x ws = (us vs : List ℕ) → ws ≡ us ++ (syn ∷ syn ∷ four x ∷ vs) → ⊥
 
 -- ---- the rules: `Says s e o t`, standing at s the event e sends o, and t is where the line stands then
 

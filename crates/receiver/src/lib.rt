@@ -21,7 +21,7 @@ use outcomes::silent;
 use phases::collect;
 use phases::listen;
 use reader::Verdict;
-use requests::ask;
+use requests::again;
 use states::in_range;
 
 pub enum Phase {
@@ -82,7 +82,10 @@ impl Receiver {
             match phase {
                 Phase::Off => pass(self, byte),
                 Phase::Collecting => collect(self, byte),
-                Phase::Waiting(seen) => silent(listen(self, seen, byte), 0),
+                Phase::Waiting(seen) => silent(
+                    listen(self, codes::listen(self.number, seen, byte)),
+                    0,
+                ),
             }
         } else {
             silent(self, 5)
@@ -94,9 +97,8 @@ impl Receiver {
         ensures { λ r. ⌜ r ≡ switchedTo phase self ⌝ }
     {
         if in_range(self) {
-            let held = [0u8; 17];
             let next = Receiver {
-                held: held,
+                held: [0; 17],
                 count: 0,
                 number: 0,
                 phase: phase,
@@ -130,7 +132,7 @@ impl Receiver {
             match phase {
                 Phase::Off => silent(self, 0),
                 Phase::Collecting => silent(self, 0),
-                Phase::Waiting(_) => ask(self, Judged::Nothing),
+                Phase::Waiting(_) => again(self),
             }
         } else {
             silent(self, 5)

@@ -2,8 +2,9 @@
 ghost use mathlib.Core.Path.{_≡_};
 ghost use mathlib.Core.List.{[]};
 ghost use Prim.Native.Nat.{_<_};
+ghost use Rattle.codes.specs.Codes.{plainly};
 ghost use Rattle.receiver.specs.declared.Judged.the-variants.{Nothing};
-ghost use Rattle.receiver.specs.Calls.{giving, plainly, passing, accepted};
+ghost use Rattle.receiver.specs.Calls.{giving, passing, accepted};
 use crate::Judged;
 use crate::Phase;
 use crate::Receiver;
@@ -26,16 +27,12 @@ pub(crate) fn silent(next: Receiver, answer: u8) -> Stepped
     }
 }
 
-// Off: the byte passes without parity; one of odd parity passes as 7/F.
+// Off: the byte passes by itself.
 pub(crate) fn pass(next: Receiver, byte: u8) -> Stepped
     ensures { λ r. ⌜ r ≡ passing next (plainly byte) ⌝ }
 {
     let mut values = [0u8; 15];
-    if parity::is_even(byte) {
-        values[0] = byte % 128;
-    } else {
-        values[0] = 127;
-    }
+    values[0] = codes::plain(byte);
     Stepped {
         next: next,
         answer: 0,

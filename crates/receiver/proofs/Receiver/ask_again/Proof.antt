@@ -1,14 +1,18 @@
 -- `receiver::Receiver::ask_again` meets its contract. Assumes nothing.
-use mathlib.Core.Path.{_≡_, ap, sym, _∙_}
+use mathlib.Core.Path.{_≡_, sym, _∙_}
 use mathlib.Core.Bool.{true}
 use Rattle.receiver.specs.declared.Phase.the-variants.{Off, Collecting, Waiting}
 use Rattle.receiver.specs.declared.Receiver.{Receiver}
 use Rattle.receiver.specs.States.{inRange}
-use Rattle.receiver.proofs.Ranges.{number-in}
 use Rattle.receiver.proofs.Cases.{again-in}
 use borrow.Author.Needs.{needs}
 use Rattle.receiver.proofs.Receiver.ask_again.Statement.{statement}
 use Rattle.receiver.proofs.Receiver.ask_again.Tie as tie
+use Rattle.receiver.proofs.Receiver.ask_again.Reads as reads
+use Rattle.receiver.proofs.Receiver.ask_again.Lts as lts
+use Rattle.receiver.proofs.outcomes.silent.Reads as silent-reads
+use Rattle.receiver.proofs.requests.again.Reads as again-reads
+use Rattle.receiver.proofs.states.in_range.Reads as in-range-reads
 
 abbrev was : tie.After-in-range → Receiver
 was s = s .before .args .self
@@ -31,10 +35,8 @@ silent-requires-2 c κs = search needs
 enum-told-3 : tie.Need-enum-told-3
 enum-told-3 c = search needs
 
-ask-requires : tie.Need-ask-requires
-ask-requires c κs =
-    let s = c .before .before .before in
-    number-in (was s) (sym (s .in-range .ensures) ∙ c .before .before .if1 .taken)
+again-requires : tie.Need-again-requires
+again-requires c κs = search needs
 
 silent-requires-3 : tie.Need-silent-requires-3
 silent-requires-3 c κs = search needs
@@ -55,7 +57,7 @@ returns-3 : tie.Need-returns-3
 returns-3 c =
     let s = c .before .before .before .before in
     let e : inRange (was s) ≡ true = sym (s .in-range .ensures) ∙ c .before .before .before .if1 .taken in
-    c .ask .ensures
+    c .again .ensures
     ∙ again-in (was s) (Waiting (c .before .enum-told3 .given .0 .0)) e (c .before .enum-told3 .given .1)
 
 returns-4 : tie.Need-returns-4
@@ -71,7 +73,7 @@ ask-again-spec =
     enum-told-2
     silent-requires-2
     enum-told-3
-    ask-requires
+    again-requires
     silent-requires-3
     returns
     returns-2

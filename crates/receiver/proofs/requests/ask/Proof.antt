@@ -3,14 +3,11 @@ use borrow.Author.Needs.{needs}
 use Rattle.receiver.proofs.requests.ask.Statement.{statement}
 use Rattle.receiver.proofs.requests.ask.Tie as tie
 
-add-with-parity : tie.Need-add-with-parity
-add-with-parity c = search needs
-
-with-parity-requires : tie.Need-with-parity-requires
-with-parity-requires c κs = search needs
+request-requires : tie.Need-request-requires
+request-requires c κs = search needs
 
 returns : tie.Need-returns
-returns c = simp (c .with-parity .ensures)
+returns c = simp (c .request .ensures)
 
 pub ask-spec : {M : Type 1} → statement M
-ask-spec = tie.close (tie.spec add-with-parity with-parity-requires returns)
+ask-spec = tie.close (tie.spec request-requires returns)

@@ -1,8 +1,4 @@
 -- `receiver::requests::repeat` meets its contract. Assumes nothing.
-use mathlib.Core.Path.{subst⁻¹}
-use Prim.Native.Nat.{_<_}
-use native.Mathlib.Omega.{arith}
-use Rattle.receiver.specs.declared.Receiver.{Receiver}
 use borrow.Author.Needs.{needs}
 use Rattle.receiver.proofs.requests.repeat.Statement.{statement}
 use Rattle.receiver.proofs.requests.repeat.Tie as tie
@@ -11,9 +7,7 @@ emptied-requires : tie.Need-emptied-requires
 emptied-requires c κs = search needs
 
 ask-requires : tie.Need-ask-requires
-ask-requires c κs =
-    subst⁻¹ (λ (r : Receiver). r .number < 16) (c .emptied .ensures)
-    (omega (arith, c .before .pre))
+ask-requires c κs = search needs
 
 returns : tie.Need-returns
 returns c = simp (c .ask .ensures, c .before .emptied .ensures)
