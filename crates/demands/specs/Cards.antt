@@ -1,21 +1,31 @@
 -- The bench cards (01, "The bench cards"), as one list and one statement over it. Assumes nothing.
 use Prim.Native.Nat.{ℕ}
 use mathlib.Core.Path.{_≡_}
-use mathlib.Core.List.{List, [], _∷_, _++_}
+use mathlib.Core.List.{List, [], _∷_, _++_, map}
 use lib.ListN.{replicate}
 use Rattle.reader.specs.declared.Verdict.{Verdict}
 use Rattle.reader.specs.declared.Verdict.the-variants.{Mended, Repeat}
 use Rattle.maker.specs.Making.{blockOf}
 use Rattle.reader.specs.Judging.{verdict, left}
+use Rattle.receiver.specs.declared.Phase.{Phase}
+use Rattle.receiver.specs.declared.Phase.the-variants.{Collecting, Waiting}
+use Rattle.receiver.specs.declared.Judged.the-variants.{Block}
+use Rattle.receiver.specs.States.{newReceiver}
+use Rattle.receiver.specs.Runs.{Event, byte, on, run, Sent, sent}
+use Rattle.receiver.specs.Page.{nothing}
 
--- values and the block made of them; or a block that arrives, its verdict, and the block left
+-- values and the block made of them; or a block that arrives, its verdict, and the block left; or what happens to a
+-- new receiver, what goes out at each event, and the phase and number behind them
 pub data Card : Type 0 where
   made : List ℕ → List ℕ → Card
   judged : List ℕ → Verdict → List ℕ → Card
+  heard : List Event → List Sent → Phase → ℕ → Card
 
 abbrev pub Holds : Card → Type 0
 Holds (made vs B) = blockOf vs ≡ B
 Holds (judged B v C) = (verdict B ≡ v) × (left B ≡ C)
+Holds (heard es os p x) =
+    (sent newReceiver es ≡ os) × (run newReceiver es .phase ≡ p) × (run newReceiver es .number ≡ x)
 
 abbrev pub EachHolds : List Card → Type 0
 EachHolds [] = Unit {0}
@@ -50,8 +60,8 @@ abbrev pub w8 : List ℕ
 w8 = 1 ∷ 1 ∷ zeros 15
 
 -- W1 to W8
-abbrev pub cards : List Card
-cards =
+abbrev pub blockCards : List Card
+blockCards =
     made (zeros 15) w1
     ∷ made (zeros 14 ++ (64 ∷ [])) w2
     ∷ judged w3 (Mended 119) w2
@@ -61,3 +71,24 @@ cards =
     ∷ judged w7 Repeat w7
     ∷ judged w8 Repeat w8
     ∷ []
+
+-- "W5 as first block", and the request 149, 192
+abbrev pub w9 : List Event
+w9 = on ∷ map byte w5
+
+abbrev pub quiet : ℕ → List Sent
+quiet n = replicate n nothing
+
+abbrev pub asked9 : List Sent
+asked9 = quiet 17 ++ (record { passed = []; asked = 149 ∷ 192 ∷ []; judged = Block Repeat } ∷ [])
+
+-- W9 to W11
+abbrev pub lineCards : List Card
+lineCards =
+    heard w9 asked9 (Waiting 0) 0
+    ∷ heard (w9 ++ map byte (150 ∷ 150 ∷ 150 ∷ 192 ∷ [])) (asked9 ++ quiet 4) Collecting 0
+    ∷ heard (w9 ++ map byte (150 ∷ 150 ∷ 65 ∷ [])) (asked9 ++ quiet 3) (Waiting 0) 0
+    ∷ []
+
+abbrev pub cards : List Card
+cards = blockCards ++ lineCards

@@ -13,13 +13,8 @@ use Rattle.validity.specs.Block.{Valid}
 use Rattle.maker.specs.Making.{Values, blockOf}
 use Rattle.maker.proofs.Blocks.{made-valid}
 use Rattle.receiver.specs.Calls.{padded}
-use Rattle.receiver.specs.Line.{blocksFor, fifteens, madeOf, filled}
+use Rattle.receiver.specs.Line.{blocksFor, fifteens, filled, joined}
 use Rattle.receiver.proofs.Cases.{padded-full}
-
--- one behind the other
-abbrev pub joined : List (List ℕ) → List ℕ
-joined [] = []
-joined (us ∷ uss) = us ++ joined uss
 
 -- each can be made into a block
 abbrev pub Cut : List (List ℕ) → Type 0

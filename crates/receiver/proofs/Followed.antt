@@ -35,7 +35,6 @@ use Rattle.receiver.specs.Page.{
   idle,
   midway,
   awaiting,
- 
   Says,
   plain,
   held,

@@ -17,7 +17,15 @@ use Rattle.receiver.specs.declared.Receiver.{Receiver}
 use Rattle.receiver.specs.declared.Stepped.{Stepped}
 use Rattle.receiver.specs.States.{seenInRange, inRange, InRange, emptied, newReceiver}
 use Rattle.receiver.specs.Calls.{
-  silent, refused, holding, waiting, listening, switchedOn, switchedOff, againBy, askedAgain
+  silent,
+  refused,
+  holding,
+  waiting,
+  listening,
+  switchedOn,
+  switchedOff,
+  againBy,
+  askedAgain,
 }
 use Rattle.receiver.specs.Runs.{Event, byte, on, off, ask, obey, run, Sent, sentBy, sent}
 use Rattle.receiver.proofs.Ranges.{in-range, number-in, count-in, seen-in}

@@ -24,7 +24,16 @@ use Rattle.receiver.specs.declared.Judged.the-variants.{Block}
 use Rattle.receiver.specs.declared.Stepped.{Stepped}
 use Rattle.receiver.specs.States.{inRange, InRange, emptied, callConditions}
 use Rattle.receiver.specs.Calls.{
-  silent, refused, holding, whole, accepted, repeated, accepts, judgedHeld, byPhase, againBy
+  silent,
+  refused,
+  holding,
+  whole,
+  accepted,
+  repeated,
+  accepts,
+  judgedHeld,
+  byPhase,
+  againBy,
 }
 use Rattle.receiver.specs.Runs.{Event, byte, on, off, ask, obey, Sent, sentBy}
 use Rattle.receiver.specs.Page.{passes}

@@ -21,8 +21,21 @@ use Rattle.receiver.specs.declared.Judged.the-variants.{Nothing, Block}
 use Rattle.receiver.specs.declared.Stepped.{Stepped}
 use Rattle.receiver.specs.States.{inRange, emptied}
 use Rattle.receiver.specs.Calls.{
-  giving, silent, refused, holding, whole, accepted, repeated, accepts, judgedAs, judgedHeld, collecting, waiting, listening,
-  byPhase, againBy
+  giving,
+  silent,
+  refused,
+  holding,
+  whole,
+  accepted,
+  repeated,
+  accepts,
+  judgedAs,
+  judgedHeld,
+  collecting,
+  waiting,
+  listening,
+  byPhase,
+  againBy,
 }
 use Rattle.receiver.specs.Runs.{Event, byte, on, off, ask, obey, run}
 use Rattle.receiver.specs.Alike.{Alike, AlikeSteps}

@@ -23,7 +23,19 @@ use Rattle.receiver.specs.declared.Receiver.{Receiver}
 use Rattle.receiver.specs.declared.Stepped.{Stepped}
 use Rattle.receiver.specs.States.{InRange}
 use Rattle.receiver.specs.Calls.{
-  silent, passing, holding, whole, accepted, repeated, accepts, judgedAs, judgedHeld, collecting, listening, byPhase, stepped
+  silent,
+  passing,
+  holding,
+  whole,
+  accepted,
+  repeated,
+  accepts,
+  judgedAs,
+  judgedHeld,
+  collecting,
+  listening,
+  byPhase,
+  stepped,
 }
 use Rattle.receiver.proofs.Ranges.{count-in}
 use Rattle.receiver.proofs.Cases.{step-in}

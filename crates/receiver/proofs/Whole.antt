@@ -41,7 +41,7 @@ use Rattle.receiver.specs.Runs.{
   bytesOf,
 }
 use Rattle.receiver.specs.Page.{whileWaiting, awaiting}
-use Rattle.receiver.specs.Line.{blocksFor, fifteens, madeOf, filled, Arrives, nothingMore, blockThen}
+use Rattle.receiver.specs.Line.{blocksFor, fifteens, madeOf, filled, joined, Arrives, nothingMore, blockThen}
 use Rattle.receiver.proofs.Kept.{on-afresh, emptied-in, runs-keep, run-append, sent-append}
 use Rattle.receiver.proofs.Followed.{At}
 use Rattle.receiver.proofs.Waits.{resumes, waits-on}
@@ -291,3 +291,10 @@ module _ (vs : List ℕ) (j i k : ℕ) (f : Values vs) (jn : j < blocksFor vs) (
               ∙ both-values j uss ∙ values-filled vs,
           ap (λ (es : List Event). allAsked (sent r es)) (sym e) ∙ p .1,
         )
+
+-- ---- such lines exist
+
+-- blocks that are not hit
+pub unhit : (Ws : List (List ℕ)) → Arrives Ws (joined Ws)
+unhit [] = nothingMore
+unhit (W ∷ Ws) = blockThen same (unhit Ws)

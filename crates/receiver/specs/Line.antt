@@ -23,6 +23,11 @@ madeOf vs = map blockOf (fifteens (blocksFor vs) vs)
 abbrev pub filled : List ℕ → List ℕ
 filled vs = vs ++ replicate (15 * blocksFor vs - length vs) 0
 
+-- lists one behind the other
+abbrev pub joined : List (List ℕ) → List ℕ
+joined [] = []
+joined (us ∷ uss) = us ++ joined uss
+
 -- what arrives of blocks, one behind the other: each hit at no bit or at one mendable bit
 pub data Arrives : List (List ℕ) → List ℕ → Type 0 where
   nothingMore : Arrives [] []
