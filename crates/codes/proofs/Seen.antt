@@ -148,9 +148,12 @@ last-ends x ws b s e =
     )
 
 -- a byte ends the waiting exactly where the last three are SYN, SYN, 4/X; else the codes at the end are counted on
-pub heard : (x : ℕ) (ws : List ℕ) (b : ℕ)
-    → (Ends x (ws ++ (b ∷ [])) × (listened x (seenIn ws) b ≡ Resumed))
-    ⊎ ((Ends x (ws ++ (b ∷ [])) → ⊥) × (listened x (seenIn ws) b ≡ Seen (seenIn (ws ++ (b ∷ [])))))
+abbrev pub Heard : ℕ → List ℕ → ℕ → Listened → Type 0
+Heard x ws b l =
+    (Ends x (ws ++ (b ∷ [])) × (l ≡ Resumed))
+    ⊎ ((Ends x (ws ++ (b ∷ [])) → ⊥) × (l ≡ Seen (seenIn (ws ++ (b ∷ [])))))
+
+pub heard : (x : ℕ) (ws : List ℕ) (b : ℕ) → Heard x ws b (listened x (seenIn ws) b)
 heard x ws b = first (eqb b syn) refl
   where
     counted : {t : Bool} → eqb b syn ≡ t → Seen (cond t (oneMore (seenIn ws)) 0) ≡ Seen (seenIn (ws ++ (b ∷ [])))
@@ -158,35 +161,33 @@ heard x ws b = first (eqb b syn) refl
         ap Seen (ap (λ (t : Bool). cond t (oneMore (seenIn ws)) 0) (sym e) ∙ sym (seen-snoc ws b))
 
     last : (t : Bool) → eqb b syn ≡ false → (eqb (seenIn ws) 2 && eqb b (four x)) ≡ t
-        → (Ends x (ws ++ (b ∷ [])) × (cond t Resumed (Seen 0) ≡ Resumed))
-        ⊎ ((Ends x (ws ++ (b ∷ [])) → ⊥) × (cond t Resumed (Seen 0) ≡ Seen (seenIn (ws ++ (b ∷ [])))))
-    last true ne e = inl (
-      last-ends x ws b
-          (eqb-true (seenIn ws) 2 (is-true (eqb (seenIn ws) 2) (and-left (eqb (seenIn ws) 2) (eqb b (four x)) (holds e))))
-          (eqb-true b (four x) (is-true (eqb b (four x)) (and-right (eqb (seenIn ws) 2) (eqb b (four x)) (holds e)))),
-      refl,
-    )
-    last false ne e = inr (
-      λ d. let p = ends-last x ws b d in
-          fails e (both (eqb (seenIn ws) 2) (eqb b (four x)) (holds (eq-eqb (seenIn ws) 2 (p .0))) (holds (eq-eqb b (four x) (p .1)))),
-      counted ne,
-    )
+        → Heard x ws b (cond t Resumed (Seen 0))
+    last true ne e =
+        let s : T (eqb (seenIn ws) 2) = and-left (eqb (seenIn ws) 2) (eqb b (four x)) (holds e) in
+        let f : T (eqb b (four x)) = and-right (eqb (seenIn ws) 2) (eqb b (four x)) (holds e) in
+        inl (
+          last-ends x ws b (eqb-true (seenIn ws) 2 (is-true (eqb (seenIn ws) 2) s))
+              (eqb-true b (four x) (is-true (eqb b (four x)) f)),
+          refl,
+        )
+    last false ne e =
+        inr (
+          λ d. let p = ends-last x ws b d in
+              fails e
+              (both (eqb (seenIn ws) 2) (eqb b (four x)) (holds (eq-eqb (seenIn ws) 2 (p .0)))
+              (holds (eq-eqb b (four x) (p .1)))),
+          counted ne,
+        )
 
     first : (t : Bool) → eqb b syn ≡ t
-        → (Ends x (ws ++ (b ∷ []))
-        × (cond t (Seen (oneMore (seenIn ws))) (cond (eqb (seenIn ws) 2 && eqb b (four x)) Resumed (Seen 0)) ≡ Resumed))
-        ⊎ ((Ends x (ws ++ (b ∷ [])) → ⊥)
-        × (cond t (Seen (oneMore (seenIn ws))) (cond (eqb (seenIn ws) 2 && eqb b (four x)) Resumed (Seen 0))
-        ≡ Seen (seenIn (ws ++ (b ∷ [])))))
+        → Heard x ws b (cond t (Seen (oneMore (seenIn ws))) (cond (eqb (seenIn ws) 2 && eqb b (four x)) Resumed (Seen 0)))
     first true e = inr (λ d. syn-four x (sym (eqb-true b syn e) ∙ ends-last x ws b d .1), counted e)
     first false e = last (eqb (seenIn ws) 2 && eqb b (four x)) e refl
 
 pub ended : (x : ℕ) (ws : List ℕ) (b : ℕ) → Ends x (ws ++ (b ∷ [])) → listened x (seenIn ws) b ≡ Resumed
 ended x ws b d = by (heard x ws b)
   where
-    by : (Ends x (ws ++ (b ∷ [])) × (listened x (seenIn ws) b ≡ Resumed))
-        ⊎ ((Ends x (ws ++ (b ∷ [])) → ⊥) × (listened x (seenIn ws) b ≡ Seen (seenIn (ws ++ (b ∷ [])))))
-        → listened x (seenIn ws) b ≡ Resumed
+    by : Heard x ws b (listened x (seenIn ws) b) → listened x (seenIn ws) b ≡ Resumed
     by (inl p) = p .1
     by (inr p) = absurd (p .0 d)
 

@@ -1,31 +1,14 @@
--- The bench cards, computed. Assumes nothing.
+-- Two valid blocks that lie just four bits apart. Assumes nothing.
 use mathlib.Core.Path.{_≡_, refl}
-use mathlib.Core.List.{List, [], _∷_, _++_}
-use Rattle.division.specs.Division.{lowBits, bits, reduce, divide, checkBits}
-use Rattle.parity.specs.Parity.{ones, even, allEven, withParity}
+use mathlib.Core.List.{_∷_, _++_}
+use lib.ListN.{replicate}
+use Rattle.division.specs.Division.{lowBits, bits, reduce, divide}
+use Rattle.parity.specs.Parity.{ones, even, allEven}
 use Rattle.validity.specs.Block.{codeBits, remainder, valid, Valid}
-use Rattle.validity.specs.Changed.{flip, differences, distance}
-use Rattle.maker.specs.Making.{useful, sealed, blockOf}
-use Rattle.reader.specs.Judging.{tryFrom, verdict, left}
-use Rattle.demands.specs.Cards.{Card, EachHolds, zeros, w1, blockCards, lineCards, cards}
+use Rattle.validity.specs.Changed.{differences, distance}
 
-on-blocks : EachHolds blockCards
-unfolding lowBits bits reduce divide checkBits ones even allEven withParity codeBits remainder valid
-    flip useful sealed blockOf tryFrom verdict left
-on-blocks =
-    (refl, (refl, ((refl, refl), ((refl, refl), ((refl, refl), ((refl, refl), ((refl, refl), ((refl, refl), tt))))))))
-
-on-the-line : EachHolds lineCards
-unfolding lowBits bits reduce divide ones even allEven withParity codeBits remainder valid flip tryFrom verdict left
-on-the-line = ((refl, refl, refl), ((refl, refl, refl), ((refl, refl, refl), tt)))
-
-each-append : (cs ds : List Card) → EachHolds cs → EachHolds ds → EachHolds (cs ++ ds)
-each-append [] ds p q = q
-each-append (c ∷ cs) ds p q = (p .0, each-append cs ds (p .1) q)
-
-pub bench : EachHolds cards
-bench = each-append blockCards lineCards on-blocks on-the-line
-
-pub four-off : Valid w1 × Valid (3 ∷ zeros 10 ++ (68 ∷ zeros 5)) × (distance w1 (3 ∷ zeros 10 ++ (68 ∷ zeros 5)) ≡ 4)
+pub four-off :
+    Valid (replicate 17 0) × Valid (3 ∷ replicate 10 0 ++ (68 ∷ replicate 5 0))
+    × (distance (replicate 17 0) (3 ∷ replicate 10 0 ++ (68 ∷ replicate 5 0)) ≡ 4)
 unfolding lowBits bits reduce divide ones even allEven codeBits remainder valid differences distance
 four-off = (tt, tt, refl)

@@ -5,13 +5,12 @@ ghost use mathlib.Core.Path.{_≡_};
 ghost use mathlib.Core.List.{List, _∷_, _++_};
 ghost use mathlib.Core.Logic.{_↔_};
 ghost use Prim.Native.Nat.{ℕ, _≤_, _<_};
-ghost use lib.ListN.{length};
+ghost use lib.ListN.{length, replicate};
 ghost use Rattle.validity.specs.Block.{Valid, Bytes};
 ghost use Rattle.validity.specs.Changed.{flip, distance};
 ghost use Rattle.reader.specs.declared.Verdict.the-variants.{Clean, Mended, Repeat};
 ghost use Rattle.reader.specs.Judging.{verdict, left, mendable};
 ghost use Rattle.reader.specs.Claims.{NoneNear, OnlyNear};
-ghost use Rattle.demands.specs.Cards.{zeros, w1};
 
 // What is handed on is valid, within one mendable bit of what arrived, and the only such block; a repeat is asked
 // exactly when there is none.
@@ -40,6 +39,7 @@ pub fn hit_twice_is_refused()
 pub fn valid_blocks_lie_four_bits_apart()
     ensures apart { λ _. ⌜ ((C : List ℕ) → length C ≡ 17 → Bytes C → (B : List ℕ) → Bytes B
         → Valid B → Valid C → (B ≡ C → ⊥) → 4 ≤ distance B C) ⌝ }
-    ensures reached { λ _. ⌜ Valid w1 × Valid (3 ∷ zeros 10 ++ (68 ∷ zeros 5))
-        × (distance w1 (3 ∷ zeros 10 ++ (68 ∷ zeros 5)) ≡ 4) ⌝ }
+    ensures reached { λ _. ⌜ Valid (replicate 17 0)
+        × Valid (3 ∷ replicate 10 0 ++ (68 ∷ replicate 5 0))
+        × (distance (replicate 17 0) (3 ∷ replicate 10 0 ++ (68 ∷ replicate 5 0)) ≡ 4) ⌝ }
 {}

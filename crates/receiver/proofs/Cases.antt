@@ -1,13 +1,13 @@
 -- The definitions of specs/Calls by cases, as the code meets them. Assumes nothing.
 use mathlib.Core.Path.{_≡_, sym, ap, ap₂, _∙_}
-use mathlib.Core.Bool.{Bool, true, false, cond}
-use mathlib.Core.List.{List, [], _∷_, _++_, append-nil}
+use mathlib.Core.Bool.{Bool, true, cond}
+use mathlib.Core.List.{List, _++_, append-nil}
 use Prim.Native.Nat.{ℕ, _-_}
 use lib.ListN.{length, replicate}
 use native.Mathlib.Omega.{arith}
 use Rattle.maker.specs.Making.{valuesOf}
 use Rattle.reader.specs.declared.Verdict.{Verdict}
-use Rattle.reader.specs.Judging.{verdict, left, told, judged}
+use Rattle.reader.specs.Judging.{left, told, judged}
 use Rattle.reader.proofs.Handed.{told-verdict}
 use Rattle.receiver.specs.declared.Phase.{Phase}
 use Rattle.receiver.specs.declared.Receiver.{Receiver}
@@ -15,21 +15,8 @@ use Rattle.receiver.specs.declared.Judged.{Judged}
 use Rattle.receiver.specs.declared.Judged.the-variants.{Block}
 use Rattle.receiver.specs.declared.Stepped.{Stepped}
 use Rattle.receiver.specs.States.{inRange}
-use Rattle.receiver.specs.Calls.{
-  padded,
-  giving,
-  refused,
-  accepted,
-  repeated,
-  accepts,
-  judgedAs,
-  whole,
-  judgedHeld,
-  byPhase,
-  stepped,
-  againBy,
-  askedAgain,
-}
+use Rattle.receiver.specs.Calls.{padded, refused, accepted, repeated, accepts, judgedAs, whole}
+use Rattle.receiver.specs.Calls.{judgedHeld, byPhase, stepped, againBy, askedAgain}
 
 pub padded-full : (n : ℕ) (vs : List ℕ) → length vs ≡ n → vs ≡ padded n vs
 padded-full n vs l =

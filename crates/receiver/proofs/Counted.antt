@@ -1,10 +1,9 @@
 -- The number counts accepted blocks. Assumes nothing.
-use mathlib.Core.Path.{_≡_, refl, sym, ap, _∙_, subst⁻¹}
-use mathlib.Core.Bool.{Bool, true, false, cond}
+use mathlib.Core.Path.{_≡_, refl, sym, ap, _∙_}
+use mathlib.Core.Bool.{Bool, false, cond}
 use mathlib.Core.List.{List, [], _∷_}
 use Prim.Native.Nat.{ℕ, _+_, _%_, _<_}
 use native.Mathlib.Omega.{arith}
-use lib.Dec.{eqb}
 use lib.ListN.{length}
 use borrow.Author.Tests.{eq-eqb}
 use Rattle.laws.proofs.Computed.{fails}
@@ -19,20 +18,8 @@ use Rattle.receiver.specs.declared.Receiver.{Receiver}
 use Rattle.receiver.specs.declared.Stepped.{Stepped}
 use Rattle.receiver.specs.States.{InRange}
 use Rattle.receiver.specs.Calls.{listening, stepped, againBy, askedAgain}
-use Rattle.receiver.specs.Runs.{
-  Event,
-  byte,
-  on,
-  off,
-  ask,
-  obey,
-  run,
-  Sent,
-  sentBy,
-  switches,
-  blocksIn,
-  blocksSince,
-}
+use Rattle.receiver.specs.Runs.{Event, byte, on, off, ask, obey, run, sentBy, switches, blocksIn}
+use Rattle.receiver.specs.Runs.{blocksSince}
 use Rattle.receiver.proofs.Ranges.{number-in}
 use Rattle.receiver.proofs.Shape.{Shape, plain, more, took, none, listens, shape, arrived}
 use Rattle.receiver.proofs.Kept.{on-afresh, off-afresh, again-as, again-same, keeps}
@@ -57,10 +44,12 @@ byte-moves r b g (listens n f) =
     listening-number (listened (r .number) n b) r ∙ omega arith
 
 -- asking again passes nothing
-ask-moves : (r : Receiver) → InRange r → askedAgain r .next .number ≡ (r .number + blocksIn (sentBy (askedAgain r))) % 16
+ask-moves : (r : Receiver) → InRange r
+    → askedAgain r .next .number ≡ (r .number + blocksIn (sentBy (askedAgain r))) % 16
 ask-moves r g =
     let h : r .number < 16 = number-in r (g .range) in
-    let z : blocksIn (sentBy (askedAgain r)) ≡ 0 = ap (λ (s : Stepped). blocksIn (sentBy s)) (again-as r g) ∙ none-in (r .phase) in
+    let z : blocksIn (sentBy (askedAgain r)) ≡ 0 =
+    ap (λ (s : Stepped). blocksIn (sentBy s)) (again-as r g) ∙ none-in (r .phase) in
     ap (λ (q : Receiver). q .number) (again-same r) ∙ omega arith
   where
     none-in : (p : Phase) → blocksIn (sentBy (againBy p r)) ≡ 0

@@ -1,12 +1,13 @@
 -- Values cut into fifteens: each can be made into a block, and filled up and joined they are the values filled up.
 -- Assumes nothing.
-use mathlib.Core.Path.{_≡_, refl, sym, ap, ap₂, _∙_, subst}
-use mathlib.Core.List.{List, [], _∷_, _++_, map, append-assoc, append-nil}
+use mathlib.Core.Path.{_≡_, refl, sym, ap, ap₂, _∙_}
+use mathlib.Core.List.{List, [], _∷_, _++_, map, append-assoc}
 use mathlib.Core.Logic.{_⊎_, inl, inr}
 use Prim.Native.Nat.{ℕ, zero, suc, _+_, _-_, _*_, _≤_, _<_, suc-le-suc}
 use native.Mathlib.Nat.{zero-lt-suc, not-suc-le-zero, le-of-suc-le-suc}
 use native.Mathlib.Omega.{arith}
-use lib.ListN.{length, getD, take, drop, replicate, length-append, length-replicate, length-drop, take-append-drop, drop-of-length-le, replicate-append-replicate}
+use lib.ListN.{length, getD, take, drop, replicate, length-append, length-replicate, length-drop}
+use lib.ListN.{take-append-drop, drop-of-length-le, replicate-append-replicate}
 use lib.Seq.{take-all, length-take-le, take-append-add}
 use Rattle.laws.proofs.Computed.{apart}
 use Rattle.validity.specs.Block.{Valid}
@@ -102,8 +103,10 @@ joins (suc n) vs h =
     go rest (inl l) =
         let z : drop 15 vs ≡ [] = drop-of-length-le vs {i = 15} (omega arith) in
         let k : 15 - length vs + (15 * n - 0) ≡ 15 * suc n - length vs = omega arith in
+        let a : padded 15 (take 15 vs) ++ values (fifteens n (drop 15 vs)) ≡ padded 15 vs ++ replicate (15 * n - 0) 0 =
         ap₂ (λ (us ws : List ℕ). padded 15 us ++ ws) (take-all 15 vs (omega arith))
-        (rest ∙ ap (λ (us : List ℕ). us ++ replicate (15 * n - length us) 0) z)
+        (rest ∙ ap (λ (us : List ℕ). us ++ replicate (15 * n - length us) 0) z) in
+        a
         ∙ append-assoc vs (replicate (15 - length vs) 0) (replicate (15 * n - 0) 0)
         ∙ ap (λ (us : List ℕ). vs ++ us)
         (replicate-append-replicate (15 - length vs) (15 * n - 0) 0 ∙ ap (λ (m : ℕ). replicate m 0) k)
@@ -129,7 +132,8 @@ first-values (suc j) (us ∷ uss) c h =
     let k : 15 * suc j ≡ 15 + 15 * j = omega arith in
     ap (λ (l : List ℕ). padded 15 us ++ l) (first-values j uss (c .2) (le-of-suc-le-suc h))
     ∙ sym (take-append-add (padded 15 us) (values uss) (15 * j))
-    ∙ ap (λ (n : ℕ). take n (padded 15 us ++ values uss)) (ap (λ (n : ℕ). n + 15 * j) (padded-length us (c .0)) ∙ sym k)
+    ∙ ap (λ (n : ℕ). take n (padded 15 us ++ values uss))
+    (ap (λ (n : ℕ). n + 15 * j) (padded-length us (c .0)) ∙ sym k)
 
 pub both-values : (j : ℕ) (uss : List (List ℕ)) → values (take j uss) ++ values (drop j uss) ≡ values uss
 both-values zero uss = refl

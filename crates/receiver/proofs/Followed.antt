@@ -1,21 +1,19 @@
 -- A receiver in range follows the page at every event of every run. Assumes nothing.
 use mathlib.Core.Path.{_≡_, refl, sym, ap, ap₂, _∙_, subst, subst⁻¹}
-use mathlib.Core.Bool.{Bool, true, false, cond}
+use mathlib.Core.Bool.{false}
 use mathlib.Core.List.{List, [], _∷_, _++_}
-use mathlib.Core.Logic.{_⊎_, inl, inr}
+use mathlib.Core.Logic.{inl, inr}
 use Prim.Native.Nat.{ℕ, _+_, _%_, _<_}
 use native.Mathlib.Omega.{arith}
 use lib.Dec.{eqb}
-use lib.ListN.{length, take, replicate, length-append}
+use lib.ListN.{length, take, length-append}
 use lib.Seq.{length-take-le}
 use borrow.Author.Tests.{eq-eqb}
 use Rattle.laws.proofs.Computed.{fails, holds}
 use Rattle.codes.specs.declared.Listened.{Listened}
-use Rattle.codes.specs.declared.Listened.the-variants.{Seen, Resumed}
-use Rattle.codes.specs.Codes.{listened, Ends}
-use Rattle.codes.proofs.Seen.{seenIn, seen-syns, heard}
+use Rattle.codes.specs.Codes.{listened}
+use Rattle.codes.proofs.Seen.{seenIn, seen-syns, Heard, heard}
 use Rattle.maker.specs.Making.{valuesOf}
-use Rattle.reader.specs.declared.Verdict.{Verdict}
 use Rattle.reader.specs.declared.Verdict.the-variants.{Repeat}
 use Rattle.reader.specs.Judging.{verdict}
 use Rattle.reader.specs.Claims.{NoneNear, OnlyNear}
@@ -24,36 +22,12 @@ use Rattle.receiver.specs.declared.Phase.the-variants.{Off, Collecting, 
 use Rattle.receiver.specs.declared.Receiver.{Receiver}
 use Rattle.receiver.specs.declared.Judged.the-variants.{Nothing, Block}
 use Rattle.receiver.specs.declared.Stepped.{Stepped}
-use Rattle.receiver.specs.States.{InRange, emptied}
+use Rattle.receiver.specs.States.{InRange}
 use Rattle.receiver.specs.Calls.{silent, listening, askedAgain, stepped}
 use Rattle.receiver.specs.Runs.{Event, byte, on, off, ask, obey, run, Sent, sentBy, sent}
-use Rattle.receiver.specs.Page.{
-  nothing,
-  passes,
-  asks,
-  Stand,
-  idle,
-  midway,
-  awaiting,
-  Says,
-  plain,
-  held,
-  taken,
-  refused,
-  dropped,
-  resumed,
-  again,
-  midwayAsk,
-  idleAsk,
-  switchedOn,
-  switchedOff,
-  Course,
-  done,
-  next,
-  standIn,
-  standOf,
-  Stands,
-}
+use Rattle.receiver.specs.Page.{passes, asks, Stand, idle, midway, awaiting, Says, plain, held, taken}
+use Rattle.receiver.specs.Page.{refused, dropped, resumed, again, midwayAsk, idleAsk, switchedOn}
+use Rattle.receiver.specs.Page.{switchedOff, Course, done, next, standIn, standOf, Stands}
 use Rattle.receiver.proofs.Ranges.{count-in, seen-in}
 use Rattle.receiver.proofs.Cases.{again-in}
 use Rattle.receiver.proofs.Shape as shapes
@@ -97,7 +71,8 @@ at-stands r (awaiting x ws) a = ((seenIn ws, a .0), a .1)
 stands-in : (r : Receiver) (p : Phase) → InRange r → r .phase ≡ p → At r (standIn p r)
 stands-in r Off g f = f
 stands-in r Collecting g f =
-    (f, refl, sym (length-take-le (r .count) (r .held) (let h : r .count < 17 = count-in r (g .range) in omega (arith, g .array))), refl)
+    let h : r .count < 17 = count-in r (g .range) in
+    (f, refl, sym (length-take-le (r .count) (r .held) (omega (arith, g .array))), refl)
 stands-in r (Waiting n) g f = (f ∙ ap Waiting (sym (seen-syns n (seen-in r (g .range) n f))), refl)
 
 pub stands-at : (r : Receiver) → InRange r → At r (standOf r)
@@ -156,8 +131,7 @@ heard-from : (r : Receiver) (b x : ℕ) (ws : List ℕ) → At r (awaiting x ws)
     → Followed (awaiting x ws) (byte b) (silent (listening (listened x (seenIn ws) b) r))
 heard-from r b x ws a = by (heard x ws b)
   where
-    by : (Ends x (ws ++ (b ∷ [])) × (listened x (seenIn ws) b ≡ Resumed))
-        ⊎ ((Ends x (ws ++ (b ∷ [])) → ⊥) × (listened x (seenIn ws) b ≡ Seen (seenIn (ws ++ (b ∷ [])))))
+    by : Heard x ws b (listened x (seenIn ws) b)
         → Followed (awaiting x ws) (byte b) (silent (listening (listened x (seenIn ws) b) r))
     by (inl p) =
         subst⁻¹ (λ (l : Listened). Followed (awaiting x ws) (byte b) (silent (listening l r))) (p .1)

@@ -16,19 +16,10 @@ use Rattle.receiver.specs.declared.Phase.the-variants.{Off, Collecting, 
 use Rattle.receiver.specs.declared.Receiver.{Receiver}
 use Rattle.receiver.specs.declared.Stepped.{Stepped}
 use Rattle.receiver.specs.States.{seenInRange, inRange, InRange, emptied, newReceiver}
-use Rattle.receiver.specs.Calls.{
-  silent,
-  refused,
-  holding,
-  waiting,
-  listening,
-  switchedOn,
-  switchedOff,
-  againBy,
-  askedAgain,
-}
+use Rattle.receiver.specs.Calls.{silent, refused, holding, waiting, listening, switchedOn, switchedOff}
+use Rattle.receiver.specs.Calls.{againBy, askedAgain}
 use Rattle.receiver.specs.Runs.{Event, byte, on, off, ask, obey, run, Sent, sentBy, sent}
-use Rattle.receiver.proofs.Ranges.{in-range, number-in, count-in, seen-in}
+use Rattle.receiver.proofs.Ranges.{in-range, number-in, count-in}
 use Rattle.receiver.proofs.Cases.{again-in}
 use Rattle.receiver.proofs.Shape.{Shape, plain, more, took, none, listens, shape}
 

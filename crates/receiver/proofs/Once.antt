@@ -1,5 +1,5 @@
 -- The page says one thing: a run has one course. Assumes nothing.
-use mathlib.Core.Path.{_≡_, refl, sym, ap, ap₂, _∙_, subst}
+use mathlib.Core.Path.{_≡_, refl, sym, ap, ap₂, subst}
 use mathlib.Core.List.{List, [], _∷_, _++_}
 use Prim.Native.Nat.{ℕ}
 use native.Mathlib.Omega.{arith}
@@ -8,25 +8,8 @@ use Rattle.reader.specs.Judging.{verdict}
 use Rattle.reader.specs.Claims.{NoneNear, OnlyNear}
 use Rattle.receiver.specs.declared.Judged.the-variants.{Block}
 use Rattle.receiver.specs.Runs.{Event, Sent}
-use Rattle.receiver.specs.Page.{
-  passes,
-  Stand,
-  Says,
-  plain,
-  held,
-  taken,
-  refused,
-  dropped,
-  resumed,
-  again,
-  midwayAsk,
-  idleAsk,
-  switchedOn,
-  switchedOff,
-  Course,
-  done,
-  next,
-}
+use Rattle.receiver.specs.Page.{passes, Stand, Says, plain, held, taken, refused, dropped, resumed, again}
+use Rattle.receiver.specs.Page.{midwayAsk, idleAsk, switchedOn, switchedOff, Course, done, next}
 
 pub same-block : {B C D : List ℕ} → OnlyNear B C → OnlyNear B D → C ≡ D
 same-block {B} {C} {D} p q = q .only C (p .near) (p .isValid)

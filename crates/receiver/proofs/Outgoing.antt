@@ -1,7 +1,7 @@
 -- What goes out at a call, in the terms of the page, and that no value passed on is above 127. Assumes nothing.
-use mathlib.Core.Path.{_≡_, refl, sym, ap, _∙_, subst, subst⁻¹}
+use mathlib.Core.Path.{_≡_, refl, ap, _∙_, subst, subst⁻¹}
 use mathlib.Core.Bool.{Bool, true, false, cond, not}
-use mathlib.Core.List.{List, [], _∷_, _++_}
+use mathlib.Core.List.{List, [], _∷_}
 use Prim.Native.Nat.{ℕ, zero, suc, _-_, _<_}
 use native.Mathlib.Omega.{arith}
 use lib.Dec.{ltb}
@@ -19,22 +19,11 @@ use Rattle.reader.specs.Claims.{OnlyNear}
 use Rattle.receiver.specs.declared.Phase.{Phase}
 use Rattle.receiver.specs.declared.Phase.the-variants.{Off, Collecting, Waiting}
 use Rattle.receiver.specs.declared.Receiver.{Receiver}
-use Rattle.receiver.specs.declared.Judged.{Judged}
 use Rattle.receiver.specs.declared.Judged.the-variants.{Block}
 use Rattle.receiver.specs.declared.Stepped.{Stepped}
 use Rattle.receiver.specs.States.{inRange, InRange, emptied, callConditions}
-use Rattle.receiver.specs.Calls.{
-  silent,
-  refused,
-  holding,
-  whole,
-  accepted,
-  repeated,
-  accepts,
-  judgedHeld,
-  byPhase,
-  againBy,
-}
+use Rattle.receiver.specs.Calls.{silent, refused, holding, whole, accepted, repeated, accepts, judgedHeld}
+use Rattle.receiver.specs.Calls.{byPhase, againBy}
 use Rattle.receiver.specs.Runs.{Event, byte, on, off, ask, obey, Sent, sentBy}
 use Rattle.receiver.specs.Page.{passes}
 use Rattle.receiver.proofs.Shape.{Shape, plain, more, took, none, listens, shape, arrived}
@@ -74,7 +63,8 @@ byte-answer : (p : Phase) (r : Receiver) (b : ℕ) → byPhase p r b .answer ≡
 byte-answer Off r b = refl
 byte-answer Collecting r b =
     either-way (ltb (r .count) 16) (silent (holding r b)) (judgedHeld r b) refl
-    (either-way (accepts (verdict (whole r b))) (accepted (r .number) (valuesOf (left (whole r b))) (verdict (whole r b)))
+    (either-way (accepts (verdict (whole r b)))
+    (accepted (r .number) (valuesOf (left (whole r b))) (verdict (whole r b)))
     (repeated (r .number) (verdict (whole r b))) refl refl)
 byte-answer (Waiting n) r b = refl
 
@@ -113,7 +103,9 @@ byte-fits : (r : Receiver) (b : ℕ) {s : Stepped} → Shape r b s → Fits s
 byte-fits r b (plain f) = (refl, one-fits (plainly b) (plain-lt b))
 byte-fits r b (more f k) = (refl, none-fit)
 byte-fits r b (took f k C o) =
-    (refl, subst⁻¹ Values (ap (λ (o : Sent). o .passed) (sent-accepted (r .number) (valuesOf C) (verdict (arrived r b)))) (values-low C))
+    let e : sentBy (accepted (r .number) (valuesOf C) (verdict (arrived r b))) .passed ≡ valuesOf C =
+    ap (λ (s : Sent). s .passed) (sent-accepted (r .number) (valuesOf C) (verdict (arrived r b))) in
+    (refl, subst⁻¹ Values e (values-low C))
 byte-fits r b (none f k o) = (refl, none-fit)
 byte-fits r b (listens n f) = (refl, none-fit)
 

@@ -5,7 +5,7 @@ use mathlib.Core.List.{List, [], _∷_, _++_}
 use Prim.Native.Nat.{ℕ, _≤_, _<_}
 use native.Mathlib.Omega.{arith}
 use lib.Dec.{ltb}
-use lib.ListN.{length, take, length-set}
+use lib.ListN.{take, length-set}
 use borrow.Author.Tests.{ltb-true, ltb-false}
 use Rattle.codes.specs.declared.Listened.{Listened}
 use Rattle.codes.specs.declared.Listened.the-variants.{Seen, Resumed}
@@ -20,27 +20,12 @@ use Rattle.receiver.specs.declared.Judged.{Judged}
 use Rattle.receiver.specs.declared.Judged.the-variants.{Nothing, Block}
 use Rattle.receiver.specs.declared.Stepped.{Stepped}
 use Rattle.receiver.specs.States.{inRange, emptied}
-use Rattle.receiver.specs.Calls.{
-  giving,
-  silent,
-  refused,
-  holding,
-  whole,
-  accepted,
-  repeated,
-  accepts,
-  judgedAs,
-  judgedHeld,
-  collecting,
-  waiting,
-  listening,
-  byPhase,
-  againBy,
-}
+use Rattle.receiver.specs.Calls.{giving, silent, refused, holding, whole, accepted, repeated, accepts}
+use Rattle.receiver.specs.Calls.{judgedAs, judgedHeld, collecting, waiting, listening, byPhase, againBy}
 use Rattle.receiver.specs.Runs.{Event, byte, on, off, ask, obey, run}
 use Rattle.receiver.specs.Alike.{Alike, AlikeSteps}
 use Rattle.receiver.proofs.Ranges.{count-in}
-use Rattle.receiver.proofs.Shape.{arrived, grown, whole-is}
+use Rattle.receiver.proofs.Shape.{grown, whole-is}
 
 -- ---- what does not look at the array
 
@@ -74,7 +59,8 @@ module _ (r : Receiver) (l : List ℕ) (a : Alike r (with-held r l)) where
         arrays = (length-set (r .held) (r .count) b ∙ a .arrays .0, length-set l (r .count) b ∙ a .arrays .1);
         count = refl;
         held =
-            grown (r .held) (r .count) b (omega (arith, h, a .arrays .0)) ∙ ap (λ (k : List ℕ). k ++ (b ∷ [])) (a .held)
+            grown (r .held) (r .count) b (omega (arith, h, a .arrays .0))
+            ∙ ap (λ (k : List ℕ). k ++ (b ∷ [])) (a .held)
             ∙ sym (grown l (r .count) b (omega (arith, h, a .arrays .1)));
         number = refl;
         phase = refl;
@@ -91,7 +77,8 @@ module _ (r : Receiver) (l : List ℕ) (a : Alike r (with-held r l)) where
   collecting-alike b h = go (ltb (r .count) 16) refl
     where
       go : (t : Bool) → ltb (r .count) 16 ≡ t
-          → AlikeSteps (cond t (silent (holding r b)) (judgedHeld r b)) (cond t (silent (holding q b)) (judgedHeld q b))
+          → AlikeSteps (cond t (silent (holding r b)) (judgedHeld r b))
+          (cond t (silent (holding q b)) (judgedHeld q b))
       go true e = giving-alike 0 [] [] Nothing (holding-alike b (ltb-true (r .count) 16 e))
       go false e =
           let k : 16 ≤ r .count = ltb-false (r .count) 16 e in
@@ -140,7 +127,8 @@ is-with {r} {q} a =
     (a .count)
     ∙ ap (λ (n : ℕ). with-held (record { held = r .held; count = q .count; number = n; phase = r .phase }) (q .held))
     (a .number)
-    ∙ ap (λ (p : Phase). with-held (record { held = r .held; count = q .count; number = q .number; phase = p }) (q .held))
+    ∙ ap
+    (λ (p : Phase). with-held (record { held = r .held; count = q .count; number = q .number; phase = p }) (q .held))
     (a .phase)
 
 pub same-calls : (e : Event) (r q : Receiver) → Alike r q → AlikeSteps (obey e r) (obey e q)

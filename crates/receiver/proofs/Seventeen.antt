@@ -15,19 +15,8 @@ use Rattle.receiver.specs.declared.Judged.the-variants.{Block}
 use Rattle.receiver.specs.declared.Stepped.{Stepped}
 use Rattle.receiver.specs.States.{InRange, emptied}
 use Rattle.receiver.specs.Calls.{accepted, repeated, stepped}
-use Rattle.receiver.specs.Runs.{Event, byte, obey, run, Sent, sentBy, sent}
-use Rattle.receiver.specs.Page.{
-  nothing,
-  passes,
-  asks,
-  atLast,
-  Stand,
-  midway,
-  Says,
-  held,
-  taken,
-  refused,
-}
+use Rattle.receiver.specs.Runs.{byte, run, Sent, sentBy, sent}
+use Rattle.receiver.specs.Page.{nothing, passes, asks, atLast, Stand, midway, Says, held, taken, refused}
 use Rattle.receiver.proofs.Shape as shapes
 use Rattle.receiver.proofs.Shape.{Shape, shape, arrived}
 use Rattle.receiver.proofs.Kept.{emptied-in, keeps, runs-keep, run-append, sent-append}

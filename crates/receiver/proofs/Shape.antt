@@ -22,21 +22,8 @@ use Rattle.receiver.specs.declared.Phase.the-variants.{Off, Collecting, 
 use Rattle.receiver.specs.declared.Receiver.{Receiver}
 use Rattle.receiver.specs.declared.Stepped.{Stepped}
 use Rattle.receiver.specs.States.{InRange}
-use Rattle.receiver.specs.Calls.{
-  silent,
-  passing,
-  holding,
-  whole,
-  accepted,
-  repeated,
-  accepts,
-  judgedAs,
-  judgedHeld,
-  collecting,
-  listening,
-  byPhase,
-  stepped,
-}
+use Rattle.receiver.specs.Calls.{silent, passing, holding, whole, accepted, repeated, accepts, judgedAs}
+use Rattle.receiver.specs.Calls.{judgedHeld, collecting, listening, byPhase, stepped}
 use Rattle.receiver.proofs.Ranges.{count-in}
 use Rattle.receiver.proofs.Cases.{step-in}
 
@@ -89,7 +76,8 @@ module _ (r : Receiver) (b : ℕ) (g : InRange r) where
       (go (accepts (verdict B)) refl)
     where
       go : (t : Bool) → accepts (verdict B) ≡ t
-          → Shape r b (cond t (accepted (r .number) (valuesOf (left B)) (verdict B)) (repeated (r .number) (verdict B)))
+          → Shape r b
+          (cond t (accepted (r .number) (valuesOf (left B)) (verdict B)) (repeated (r .number) (verdict B)))
       go true e = took f k (left B) (handed-on B B-long (λ q. fails (ap accepts q) (holds e)))
       go false e =
           let z : verdict B ≡ Repeat = refusal (verdict B) refl e in

@@ -2,7 +2,7 @@
 use mathlib.Core.Path.{_≡_, refl, sym, ap, ap₂, _∙_, subst, subst⁻¹}
 use mathlib.Core.Bool.{true}
 use mathlib.Core.List.{List, [], _∷_, _++_, map, append-assoc, append-nil}
-use Prim.Native.Nat.{ℕ, _<_}
+use Prim.Native.Nat.{ℕ}
 use lib.ListN.{replicate}
 use Rattle.laws.proofs.Computed.{fails, holds}
 use Rattle.codes.specs.declared.Listened.{Listened}
@@ -14,21 +14,9 @@ use Rattle.receiver.specs.declared.Judged.the-variants.{Nothing}
 use Rattle.receiver.specs.declared.Stepped.{Stepped}
 use Rattle.receiver.specs.States.{InRange, emptied}
 use Rattle.receiver.specs.Calls.{silent, listening, stepped}
-use Rattle.receiver.specs.Runs.{
-  Event,
-  byte,
-  on,
-  off,
-  ask,
-  obey,
-  run,
-  Sent,
-  sentBy,
-  sent,
-  unswitched,
-  bytesOf,
-}
-use Rattle.receiver.specs.Page.{nothing, asks, whileWaiting, Stand, awaiting, Says, dropped, resumed, again, IsWaiting}
+use Rattle.receiver.specs.Runs.{Event, byte, on, off, ask, obey, run, Sent, sent, unswitched, bytesOf}
+use Rattle.receiver.specs.Page.{nothing, asks, whileWaiting, Stand, awaiting, Says, dropped, resumed}
+use Rattle.receiver.specs.Page.{again, IsWaiting}
 use Rattle.receiver.proofs.Ranges.{seen-in}
 use Rattle.receiver.proofs.Shape as shapes
 use Rattle.receiver.proofs.Shape.{Shape, shape}

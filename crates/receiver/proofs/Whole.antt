@@ -16,50 +16,24 @@ use Rattle.codes.specs.Codes.{syn, four, request, Nowhere}
 use Rattle.codes.proofs.Seen.{seen-syns, nowhere-syn}
 use Rattle.maker.specs.Making.{Values, blockOf, valuesOf}
 use Rattle.maker.proofs.Blocks.{made-valid, values-back}
-use Rattle.reader.specs.declared.Verdict.the-variants.{Repeat}
-use Rattle.reader.specs.Judging.{mendable, verdict}
-use Rattle.reader.specs.Claims.{NoneNear}
+use Rattle.reader.specs.Judging.{mendable}
 use Rattle.reader.proofs.Verdicts.{near-only, asked-when-none, twice-refused}
 use Rattle.receiver.specs.declared.Phase.the-variants.{Collecting, Waiting}
 use Rattle.receiver.specs.declared.Receiver.{Receiver}
-use Rattle.receiver.specs.declared.Judged.the-variants.{Block}
 use Rattle.receiver.specs.declared.Stepped.{Stepped}
 use Rattle.receiver.specs.States.{InRange, emptied}
 use Rattle.receiver.specs.Calls.{padded, silent, stepped}
-use Rattle.receiver.specs.Runs.{
-  Event,
-  byte,
-  on,
-  obey,
-  run,
-  Sent,
-  sentBy,
-  sent,
-  allPassed,
-  allAsked,
-  unswitched,
-  bytesOf,
-}
+use Rattle.receiver.specs.Runs.{Event, byte, on, run, Sent, sentBy, sent, allPassed, allAsked, unswitched}
+use Rattle.receiver.specs.Runs.{bytesOf}
 use Rattle.receiver.specs.Page.{whileWaiting, awaiting}
-use Rattle.receiver.specs.Line.{blocksFor, fifteens, madeOf, filled, joined, Arrives, nothingMore, blockThen}
+use Rattle.receiver.specs.Line.{blocksFor, fifteens, madeOf, filled, joined, Arrives, nothingMore}
+use Rattle.receiver.specs.Line.{blockThen}
 use Rattle.receiver.proofs.Kept.{on-afresh, emptied-in, runs-keep, run-append, sent-append}
 use Rattle.receiver.proofs.Followed.{At}
 use Rattle.receiver.proofs.Waits.{resumes, waits-on}
 use Rattle.receiver.proofs.Seventeen.{block-passes, block-asked}
-use Rattle.receiver.proofs.Fifteens.{
-  Cut,
-  values,
-  cut,
-  cut-take,
-  cut-drop,
-  block-valid,
-  fifteens-length,
-  map-take,
-  map-drop,
-  values-filled,
-  first-values,
-  both-values,
-}
+use Rattle.receiver.proofs.Fifteens.{Cut, values, cut, cut-take, cut-drop, block-valid, fifteens-length}
+use Rattle.receiver.proofs.Fifteens.{map-take, map-drop, values-filled, first-values, both-values}
 
 -- ---- all that passes and is asked over bytes, and the state behind them
 
@@ -167,13 +141,18 @@ module _ (x : ℕ) (h : x < 16) where
   dropped ws n =
       let i = waits-on (map byte ws) (emptied x (Waiting 0)) x [] (unswitched-bytes ws) (begun .0) (begun .1)
       (subst⁻¹ (Nowhere x) (bytes-of ws) n) in
-      (subst (λ (l : List ℕ). At (run (emptied x (Waiting 0)) (map byte ws)) (awaiting x l)) (bytes-of ws) (i .0), i .1)
+      let q : Receiver = run (emptied x (Waiting 0)) (map byte ws) in
+      (subst (λ (l : List ℕ). At q (awaiting x l)) (bytes-of ws) (i .0), i .1)
 
   noise-heard : (ws : List ℕ) → Nowhere x ws
       → Hears (emptied x (Waiting 0)) ws [] [] (run (emptied x (Waiting 0)) (map byte ws))
   noise-heard ws n =
       let i = dropped ws n in
-      record { passed = ap allPassed (i .1) ∙ none-passed x ws; asked = ap allAsked (i .1) ∙ none-asked x ws; after = refl }
+      record {
+        passed = ap allPassed (i .1) ∙ none-passed x ws;
+        asked = ap allAsked (i .1) ∙ none-asked x ws;
+        after = refl;
+      }
 
   -- SYN, SYN, 4/X behind it
   resumption-heard : (ws : List ℕ) → Nowhere x ws
@@ -273,7 +252,8 @@ module _ (vs : List ℕ) (j i k : ℕ) (f : Values vs) (jn : j < blocksFor vs) (
 
     -- then it and the blocks behind it pass, and nothing more is asked
     pub each-once : (r : Receiver) → InRange r → (after : List ℕ) → Arrives (drop j (madeOf vs)) after
-        → (allPassed (sent r (on ∷ map byte (before ++ hit ++ noise ++ (syn ∷ syn ∷ four (j % 16) ∷ after)))) ≡ filled vs)
+        → (allPassed (sent r (on ∷ map byte (before ++ hit ++ noise ++ (syn ∷ syn ∷ four (j % 16) ∷ after))))
+        ≡ filled vs)
         × (allAsked (sent r (on ∷ map byte (before ++ hit ++ noise ++ (syn ∷ syn ∷ four (j % 16) ∷ after))))
         ≡ request (j % 16))
     each-once r g after aa =

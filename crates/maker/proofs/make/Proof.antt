@@ -6,7 +6,8 @@ use native.Mathlib.Omega.{arith}
 use lib.ListN.{length}
 use borrow.Author.Needs.{needs}
 use Rattle.maker.specs.Making.{firstLarge, makeNumber}
-use Rattle.maker.proofs.Numbered.{none, many, large, short, room, refused, written, names-none, names-place}
+use Rattle.maker.proofs.Numbered.{none, many, large, short, room, refused, written, names-none}
+use Rattle.maker.proofs.Numbered.{names-place}
 use Rattle.maker.proofs.Written.{both-written}
 use Rattle.maker.proofs.make.Statement.{statement}
 use Rattle.maker.proofs.make.Tie as tie

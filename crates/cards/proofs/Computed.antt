@@ -1,0 +1,27 @@
+-- The bench cards, computed. Assumes nothing.
+use mathlib.Core.Path.{_≡_, refl}
+use mathlib.Core.List.{List, [], _∷_, _++_}
+use Rattle.division.specs.Division.{lowBits, bits, reduce, divide, checkBits}
+use Rattle.parity.specs.Parity.{ones, even, allEven, withParity}
+use Rattle.validity.specs.Block.{codeBits, remainder, valid}
+use Rattle.validity.specs.Changed.{flip}
+use Rattle.maker.specs.Making.{useful, sealed, blockOf}
+use Rattle.reader.specs.Judging.{tryFrom, verdict, left}
+use Rattle.cards.specs.Cards.{Card, EachHolds, blockCards, lineCards, cards}
+
+on-blocks : EachHolds blockCards
+unfolding lowBits bits reduce divide checkBits ones even allEven withParity codeBits remainder valid
+    flip useful sealed blockOf tryFrom verdict left
+on-blocks =
+    (refl, (refl, ((refl, refl), ((refl, refl), ((refl, refl), ((refl, refl), ((refl, refl), ((refl, refl), tt))))))))
+
+on-the-line : EachHolds lineCards
+unfolding lowBits bits reduce divide ones even allEven withParity codeBits remainder valid flip tryFrom verdict left
+on-the-line = ((refl, refl, refl), ((refl, refl, refl), ((refl, refl, refl), tt)))
+
+each-append : (cs ds : List Card) → EachHolds cs → EachHolds ds → EachHolds (cs ++ ds)
+each-append [] ds p q = q
+each-append (c ∷ cs) ds p q = (p .0, each-append cs ds (p .1) q)
+
+pub bench : EachHolds cards
+bench = each-append blockCards lineCards on-blocks on-the-line

@@ -1,0 +1,15 @@
+-- The theorem is proved where its words are. Assumes nothing.
+use Rattle.receiver.specs.Line.{madeOf}
+use Rattle.codes.proofs.Seen.{nowhere-none}
+use Rattle.receiver.proofs.Whole.{line-whole, asked-once, each-once, unhit}
+use Rattle.line_demands.proofs.runs.the_line_comes_through_whole.Statement.{statement}
+use Rattle.line_demands.proofs.runs.the_line_comes_through_whole.Tie as tie
+
+returns : tie.Need-returns
+returns c = (
+  line-whole,
+  (asked-once, (each-once, (λ vs. unhit (madeOf vs), nowhere-none))),
+)
+
+pub the-line-comes-through-whole-spec : {M : Type 1} → statement M
+the-line-comes-through-whole-spec = tie.close (tie.spec returns)

@@ -1,0 +1,25 @@
+// Demand 1 on the line: whatever state is handed in, a call ends, and a broken one has its number and comes back.
+ghost use mathlib.Core.Path.{_≡_};
+ghost use mathlib.Core.Bool.{false};
+ghost use mathlib.Core.List.{List};
+ghost use Rattle.numbers.specs.Numbers.{numberOf};
+ghost use Rattle.maker.specs.Making.{Values};
+ghost use Rattle.receiver.specs.declared.Receiver.{Receiver};
+ghost use Rattle.receiver.specs.States.{inRange, InRange, callConditions, newReceiver};
+ghost use Rattle.receiver.specs.Calls.{refused};
+ghost use Rattle.receiver.specs.Runs.{Event, obey, run, sentBy};
+
+// A call's number comes of the paper's conditions: 5 for a state outside its ranges, and else 0, also where the call
+// asks for a repeat.
+pub fn each_call_gives_its_number()
+    ensures { λ _. ⌜ ((e : Event) (r : Receiver) → obey e r .answer ≡ numberOf (callConditions r)) ⌝ }
+{}
+
+// A new receiver is in range. From a state in range every run stays in range: each call answers 0, and no value that
+// it passes on is above 127. From any other state every call answers 5, sends nothing and hands that state back.
+pub fn a_broken_state_is_handed_back()
+    ensures { λ _. ⌜ ((r : Receiver) → inRange r ≡ false → (e : Event) → obey e r ≡ refused r) ⌝ }
+    ensures anew { λ _. ⌜ InRange newReceiver ⌝ }
+    ensures runs { λ _. ⌜ ((r : Receiver) → InRange r → (es : List Event) → InRange (run r es)
+        × ((e : Event) → (obey e (run r es) .answer ≡ 0) × Values (sentBy (obey e (run r es)) .passed))) ⌝ }
+{}
