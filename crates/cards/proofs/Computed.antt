@@ -1,5 +1,5 @@
 -- The bench cards, computed. Assumes nothing.
-use mathlib.Core.Path.{_≡_, refl}
+use mathlib.Core.Path.{refl}
 use mathlib.Core.List.{List, [], _∷_, _++_}
 use Rattle.division.specs.Division.{lowBits, bits, reduce, divide, checkBits}
 use Rattle.parity.specs.Parity.{ones, even, allEven, withParity}

@@ -1,11 +1,11 @@
 -- The bench cards (01, "The bench cards"), as one list and one statement over it. Assumes nothing.
-use Prim.Native.Nat.{ℕ}
 use mathlib.Core.Path.{_≡_}
 use mathlib.Core.List.{List, [], _∷_, _++_, map}
+use Prim.Native.Nat.{ℕ}
 use lib.ListN.{replicate}
+use Rattle.maker.specs.Making.{blockOf}
 use Rattle.reader.specs.declared.Verdict.{Verdict}
 use Rattle.reader.specs.declared.Verdict.the-variants.{Mended, Repeat}
-use Rattle.maker.specs.Making.{blockOf}
 use Rattle.reader.specs.Judging.{verdict, left}
 use Rattle.receiver.specs.declared.Phase.{Phase}
 use Rattle.receiver.specs.declared.Phase.the-variants.{Collecting, Waiting}

@@ -1,9 +1,9 @@
 -- The codes that pass between the hut and the sender (01, "The receiver"; 001, sections 5-3-5 and 5-3-6). Assumes
 -- nothing.
-use Prim.Native.Nat.{ℕ, _+_, _%_}
 use mathlib.Core.Path.{_≡_}
 use mathlib.Core.Bool.{cond, _&&_}
 use mathlib.Core.List.{List, [], _∷_, _++_}
+use Prim.Native.Nat.{ℕ, _+_, _%_}
 use lib.Dec.{ltb, eqb}
 use Rattle.parity.specs.Parity.{even, withParity}
 use Rattle.codes.specs.declared.Listened.{Listened}

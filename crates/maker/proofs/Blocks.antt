@@ -15,8 +15,8 @@ use Rattle.laws.proofs.Xor.{xor-zero-eq}
 use Rattle.division.specs.Division.{lowBits, checkBits}
 use Rattle.division.proofs.Steps.{check-lt}
 use Rattle.parity.specs.Parity.{ones, even, allEven, withParity}
-use Rattle.validity.specs.Block.{remainder, Valid, Bytes}
 use Rattle.parity.proofs.Parities.{parity-even, parity-off, parity-back}
+use Rattle.validity.specs.Block.{remainder, Valid, Bytes}
 use Rattle.validity.proofs.Powers.{remainder-by-check}
 use Rattle.validity.proofs.Validity.{valid-length, valid-even, valid-remainder, valid-last, is-valid}
 use Rattle.maker.specs.Making.{Values, useful, sealed, blockOf, valuesOf}

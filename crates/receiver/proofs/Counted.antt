@@ -7,11 +7,11 @@ use native.Mathlib.Omega.{arith}
 use lib.ListN.{length}
 use borrow.Author.Tests.{eq-eqb}
 use Rattle.laws.proofs.Computed.{fails}
+use Rattle.maker.specs.Making.{valuesOf}
+use Rattle.reader.specs.Judging.{verdict}
 use Rattle.codes.specs.declared.Listened.{Listened}
 use Rattle.codes.specs.declared.Listened.the-variants.{Seen, Resumed}
 use Rattle.codes.specs.Codes.{listened}
-use Rattle.maker.specs.Making.{valuesOf}
-use Rattle.reader.specs.Judging.{verdict}
 use Rattle.receiver.specs.declared.Phase.{Phase}
 use Rattle.receiver.specs.declared.Phase.the-variants.{Off, Collecting, Waiting}
 use Rattle.receiver.specs.declared.Receiver.{Receiver}

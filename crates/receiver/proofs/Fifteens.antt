@@ -89,6 +89,11 @@ map-drop f (suc j) (a ∷ l) = map-drop f j l
 abbrev pub values : List (List ℕ) → List ℕ
 values uss = joined (map (padded 15) uss)
 
+more-zeros : (vs : List ℕ) (a b c : ℕ) → a + b ≡ c → vs ++ replicate a 0 ++ replicate b 0 ≡ vs ++ replicate c 0
+more-zeros vs a b c e =
+    append-assoc vs (replicate a 0) (replicate b 0)
+    ∙ ap (λ (l : List ℕ). vs ++ l) (replicate-append-replicate a b 0 ∙ ap (λ (n : ℕ). replicate n 0) e)
+
 joins : (n : ℕ) (vs : List ℕ) → length vs ≤ 15 * n → values (fifteens n vs) ≡ vs ++ replicate (15 * n - length vs) 0
 unfolding fifteens
 joins zero [] h = refl
@@ -102,14 +107,9 @@ joins (suc n) vs h =
         → padded 15 (take 15 vs) ++ values (fifteens n (drop 15 vs)) ≡ vs ++ replicate (15 * suc n - length vs) 0
     go rest (inl l) =
         let z : drop 15 vs ≡ [] = drop-of-length-le vs {i = 15} (omega arith) in
-        let k : 15 - length vs + (15 * n - 0) ≡ 15 * suc n - length vs = omega arith in
-        let a : padded 15 (take 15 vs) ++ values (fifteens n (drop 15 vs)) ≡ padded 15 vs ++ replicate (15 * n - 0) 0 =
         ap₂ (λ (us ws : List ℕ). padded 15 us ++ ws) (take-all 15 vs (omega arith))
-        (rest ∙ ap (λ (us : List ℕ). us ++ replicate (15 * n - length us) 0) z) in
-        a
-        ∙ append-assoc vs (replicate (15 - length vs) 0) (replicate (15 * n - 0) 0)
-        ∙ ap (λ (us : List ℕ). vs ++ us)
-        (replicate-append-replicate (15 - length vs) (15 * n - 0) 0 ∙ ap (λ (m : ℕ). replicate m 0) k)
+        (rest ∙ ap (λ (us : List ℕ). us ++ replicate (15 * n - length us) 0) z)
+        ∙ more-zeros vs (15 - length vs) (15 * n - 0) (15 * suc n - length vs) (omega arith)
     go rest (inr g) =
         let d : length (drop 15 vs) ≡ length vs - 15 = length-drop 15 vs in
         let k : 15 * n - length (drop 15 vs) ≡ 15 * suc n - length vs = omega arith in

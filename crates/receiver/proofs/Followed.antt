@@ -10,13 +10,13 @@ use lib.ListN.{length, take, length-append}
 use lib.Seq.{length-take-le}
 use borrow.Author.Tests.{eq-eqb}
 use Rattle.laws.proofs.Computed.{fails, holds}
-use Rattle.codes.specs.declared.Listened.{Listened}
-use Rattle.codes.specs.Codes.{listened}
-use Rattle.codes.proofs.Seen.{seenIn, seen-syns, Heard, heard}
 use Rattle.maker.specs.Making.{valuesOf}
 use Rattle.reader.specs.declared.Verdict.the-variants.{Repeat}
 use Rattle.reader.specs.Judging.{verdict}
 use Rattle.reader.specs.Claims.{NoneNear, OnlyNear}
+use Rattle.codes.specs.declared.Listened.{Listened}
+use Rattle.codes.specs.Codes.{listened}
+use Rattle.codes.proofs.Seen.{seenIn, seen-syns, Heard, heard}
 use Rattle.receiver.specs.declared.Phase.{Phase}
 use Rattle.receiver.specs.declared.Phase.the-variants.{Off, Collecting, Waiting}
 use Rattle.receiver.specs.declared.Receiver.{Receiver}

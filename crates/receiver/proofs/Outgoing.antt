@@ -8,14 +8,14 @@ use lib.Dec.{ltb}
 use lib.ListN.{length, replicate}
 use lib.Seq.{take-at}
 use Rattle.numbers.specs.Numbers.{numberOf}
-use Rattle.codes.specs.Codes.{plainly}
-use Rattle.codes.proofs.Seen.{plain-lt}
 use Rattle.validity.proofs.Validity.{valid-length}
 use Rattle.maker.specs.Making.{Values, valuesOf}
 use Rattle.maker.proofs.Blocks.{values-length, values-low}
 use Rattle.reader.specs.declared.Verdict.{Verdict}
 use Rattle.reader.specs.Judging.{verdict, left}
 use Rattle.reader.specs.Claims.{OnlyNear}
+use Rattle.codes.specs.Codes.{plainly}
+use Rattle.codes.proofs.Seen.{plain-lt}
 use Rattle.receiver.specs.declared.Phase.{Phase}
 use Rattle.receiver.specs.declared.Phase.the-variants.{Off, Collecting, Waiting}
 use Rattle.receiver.specs.declared.Receiver.{Receiver}

@@ -10,13 +10,13 @@ use lib.ListN.{length, take, set, length-set}
 use lib.Seq.{take-suc-set, take-all}
 use borrow.Author.Tests.{ltb-true, ltb-false}
 use Rattle.laws.proofs.Computed.{holds, fails}
-use Rattle.codes.specs.Codes.{plainly, listened}
 use Rattle.maker.specs.Making.{valuesOf}
 use Rattle.reader.specs.declared.Verdict.{Verdict}
 use Rattle.reader.specs.declared.Verdict.the-variants.{Clean, Mended, Repeat, WrongLength}
 use Rattle.reader.specs.Judging.{verdict, left}
 use Rattle.reader.specs.Claims.{Right, NoneNear, OnlyNear}
 use Rattle.reader.proofs.Verdicts.{is-right, handed-on, asked-when-none}
+use Rattle.codes.specs.Codes.{plainly, listened}
 use Rattle.receiver.specs.declared.Phase.{Phase}
 use Rattle.receiver.specs.declared.Phase.the-variants.{Off, Collecting, Waiting}
 use Rattle.receiver.specs.declared.Receiver.{Receiver}

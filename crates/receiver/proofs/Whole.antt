@@ -12,12 +12,12 @@ use Rattle.validity.specs.Changed.{flip, Near, same, changed}
 use Rattle.validity.specs.Block.{Valid}
 use Rattle.validity.proofs.Flips.{flip-length}
 use Rattle.validity.proofs.Validity.{valid-length}
-use Rattle.codes.specs.Codes.{syn, four, request, Nowhere}
-use Rattle.codes.proofs.Seen.{seen-syns, nowhere-syn}
 use Rattle.maker.specs.Making.{Values, blockOf, valuesOf}
 use Rattle.maker.proofs.Blocks.{made-valid, values-back}
 use Rattle.reader.specs.Judging.{mendable}
 use Rattle.reader.proofs.Verdicts.{near-only, asked-when-none, twice-refused}
+use Rattle.codes.specs.Codes.{syn, four, request, Nowhere}
+use Rattle.codes.proofs.Seen.{seen-syns, nowhere-syn}
 use Rattle.receiver.specs.declared.Phase.the-variants.{Collecting, Waiting}
 use Rattle.receiver.specs.declared.Receiver.{Receiver}
 use Rattle.receiver.specs.declared.Stepped.{Stepped}

@@ -1,16 +1,16 @@
 -- What each call does to a receiver, and all that goes out (01, "The receiver"). Assumes nothing.
-use Prim.Native.Nat.{ℕ, _+_, _-_, _%_}
 use mathlib.Core.Bool.{Bool, true, false, cond}
 use mathlib.Core.List.{List, [], _∷_, _++_}
+use Prim.Native.Nat.{ℕ, _+_, _-_, _%_}
 use lib.Dec.{ltb}
 use lib.ListN.{length, set, replicate}
-use Rattle.codes.specs.declared.Listened.{Listened}
-use Rattle.codes.specs.declared.Listened.the-variants.{Seen, Resumed}
-use Rattle.codes.specs.Codes.{plainly, request, listened}
 use Rattle.maker.specs.Making.{valuesOf}
 use Rattle.reader.specs.declared.Verdict.{Verdict}
 use Rattle.reader.specs.declared.Verdict.the-variants.{Clean, Mended, Repeat, WrongLength}
 use Rattle.reader.specs.Judging.{verdict, left}
+use Rattle.codes.specs.declared.Listened.{Listened}
+use Rattle.codes.specs.declared.Listened.the-variants.{Seen, Resumed}
+use Rattle.codes.specs.Codes.{plainly, request, listened}
 use Rattle.receiver.specs.declared.Phase.{Phase}
 use Rattle.receiver.specs.declared.Phase.the-variants.{Off, Collecting, Waiting}
 use Rattle.receiver.specs.declared.Receiver.{Receiver}

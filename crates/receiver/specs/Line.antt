@@ -1,6 +1,6 @@
 -- The line whole: any values cut into fifteens and made into blocks, and what arrives of these. Assumes nothing.
-use Prim.Native.Nat.{ℕ, zero, suc, _+_, _-_, _*_, _/_}
 use mathlib.Core.List.{List, [], _∷_, _++_, map}
+use Prim.Native.Nat.{ℕ, zero, suc, _+_, _-_, _*_, _/_}
 use lib.ListN.{length, take, drop, replicate}
 use Rattle.validity.specs.Changed.{Near}
 use Rattle.maker.specs.Making.{blockOf}

@@ -1,15 +1,15 @@
 -- The page of 01 on the receiver, read from the line's side: how bytes fall into stretches of seventeen and pauses,
 -- and what goes out at each call. No receiver, and no state of one, is spoken of; what is held is what arrived.
 -- Assumes nothing.
-use Prim.Native.Nat.{ℕ, _+_, _%_, _<_}
 use mathlib.Core.Path.{_≡_}
 use mathlib.Core.List.{List, [], _∷_, _++_}
+use Prim.Native.Nat.{ℕ, _+_, _%_, _<_}
 use lib.ListN.{length, take, replicate}
-use Rattle.codes.specs.Codes.{syn, plainly, request, Ends}
 use Rattle.maker.specs.Making.{valuesOf}
 use Rattle.reader.specs.declared.Verdict.the-variants.{Repeat}
 use Rattle.reader.specs.Judging.{verdict}
 use Rattle.reader.specs.Claims.{NoneNear, OnlyNear}
+use Rattle.codes.specs.Codes.{syn, plainly, request, Ends}
 use Rattle.receiver.specs.declared.Phase.{Phase}
 use Rattle.receiver.specs.declared.Phase.the-variants.{Off, Collecting, Waiting}
 use Rattle.receiver.specs.declared.Receiver.{Receiver}

@@ -1,7 +1,7 @@
 -- A whole run: what happens to a receiver, call by call, and what goes out. Assumes nothing.
-use Prim.Native.Nat.{ℕ, _+_}
 use mathlib.Core.Bool.{Bool, true, false, cond}
 use mathlib.Core.List.{List, [], _∷_, _++_}
+use Prim.Native.Nat.{ℕ, _+_}
 use lib.Dec.{eqb}
 use lib.ListN.{length, take}
 use Rattle.receiver.specs.declared.Receiver.{Receiver}

@@ -19,7 +19,7 @@ mod states;
 use outcomes::pass;
 use outcomes::silent;
 use phases::collect;
-use phases::listen;
+use phases::hear;
 use reader::Verdict;
 use requests::again;
 use states::in_range;
@@ -83,7 +83,7 @@ impl Receiver {
                 Phase::Off => pass(self, byte),
                 Phase::Collecting => collect(self, byte),
                 Phase::Waiting(seen) => silent(
-                    listen(self, codes::listen(self.number, seen, byte)),
+                    hear(self, codes::listen(self.number, seen, byte)),
                     0,
                 ),
             }
@@ -92,7 +92,7 @@ impl Receiver {
         }
     }
 
-    // Number 0, nothing held or seen, whatever the phase was.
+    // Everything anew, whatever the state was: number 0, nothing held or seen.
     fn switched(self, phase: Phase) -> Stepped
         ensures { λ r. ⌜ r ≡ switchedTo phase self ⌝ }
     {

@@ -54,8 +54,8 @@ pub(crate) fn collect(r: Receiver, byte: u8) -> Stepped
     silent(next, 0)
 }
 
-// Waiting: what the byte made of it.
-pub(crate) fn listen(r: Receiver, heard: Listened) -> Receiver
+// Waiting: what listening to the byte made of it.
+pub(crate) fn hear(r: Receiver, heard: Listened) -> Receiver
     ensures { λ s. ⌜ s ≡ listening heard r ⌝ }
 {
     let held = r.held;

@@ -17,12 +17,26 @@ pub(crate) struct Obeyed {
 }
 
 // Answers a command of this family, up to the end of the line, or says that the line is none. A command of more than
-// two words has ten characters or more.
+// two words has ten characters or more, and the others have fewer.
 pub(crate) fn obey(line: &[u8], now: Receiver) -> Obeyed {
-    let no = Obeyed {
+    if line.len() < 10 {
+        return host(line, now);
+    }
+    if is(first(line, 7), b"rx set ") {
+        return set(&line[7..], now);
+    }
+    let mut byte = [0u8; 1];
+    if is(first(line, 8), b"rx byte ") && bytes_of(&line[8..], &mut byte) == 1 {
+        return answer(now.step(byte[0]));
+    }
+    Obeyed {
         known: false,
         receiver: now,
-    };
+    }
+}
+
+// The commands without arguments: a new receiver, and the calls of the host.
+fn host(line: &[u8], now: Receiver) -> Obeyed {
     if is(line, b"rx new") {
         return put(Receiver::new());
     }
@@ -35,17 +49,10 @@ pub(crate) fn obey(line: &[u8], now: Receiver) -> Obeyed {
     if is(line, b"rx ask") {
         return answer(now.ask_again());
     }
-    if line.len() < 10 {
-        return no;
+    Obeyed {
+        known: false,
+        receiver: now,
     }
-    if is(first(line, 7), b"rx set ") {
-        return set(&line[7..], now);
-    }
-    let mut byte = [0u8; 1];
-    if is(first(line, 8), b"rx byte ") && bytes_of(&line[8..], &mut byte) == 1 {
-        return answer(now.step(byte[0]));
-    }
-    no
 }
 
 // The state as answers have it. A broken one may count more bytes than there are; then all of them are shown.

@@ -1,7 +1,7 @@
 -- The theorem is proved where its words are. Assumes nothing.
+use Rattle.receiver.specs.Runs.{run}
 use Rattle.receiver.proofs.Kept.{new-in, runs-keep}
 use Rattle.receiver.proofs.Outgoing.{refuses, fits}
-use Rattle.receiver.specs.Runs.{run}
 use Rattle.line_demands.proofs.states.a_broken_state_is_handed_back.Statement.{statement}
 use Rattle.line_demands.proofs.states.a_broken_state_is_handed_back.Tie as tie
 

@@ -1,18 +1,13 @@
 -- `receiver::Receiver::ask_again` meets its contract. Assumes nothing.
 use mathlib.Core.Path.{_≡_, sym, _∙_}
 use mathlib.Core.Bool.{true}
+use borrow.Author.Needs.{needs}
 use Rattle.receiver.specs.declared.Phase.the-variants.{Off, Collecting, Waiting}
 use Rattle.receiver.specs.declared.Receiver.{Receiver}
 use Rattle.receiver.specs.States.{inRange}
 use Rattle.receiver.proofs.Cases.{again-in}
-use borrow.Author.Needs.{needs}
 use Rattle.receiver.proofs.Receiver.ask_again.Statement.{statement}
 use Rattle.receiver.proofs.Receiver.ask_again.Tie as tie
-use Rattle.receiver.proofs.Receiver.ask_again.Reads as reads
-use Rattle.receiver.proofs.Receiver.ask_again.Lts as lts
-use Rattle.receiver.proofs.outcomes.silent.Reads as silent-reads
-use Rattle.receiver.proofs.requests.again.Reads as again-reads
-use Rattle.receiver.proofs.states.in_range.Reads as in-range-reads
 
 abbrev was : tie.After-in-range → Receiver
 was s = s .before .args .self

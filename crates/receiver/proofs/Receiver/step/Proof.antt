@@ -1,24 +1,16 @@
 -- `receiver::Receiver::step` meets its contract. Assumes nothing.
 use mathlib.Core.Path.{_≡_, ap, sym, _∙_}
 use mathlib.Core.Bool.{true}
+use borrow.Author.Needs.{needs}
+use Rattle.codes.specs.declared.Listened.{Listened}
 use Rattle.receiver.specs.declared.Phase.the-variants.{Off, Collecting, Waiting}
 use Rattle.receiver.specs.declared.Receiver.{Receiver}
 use Rattle.receiver.specs.States.{inRange}
-use Rattle.codes.specs.declared.Listened.{Listened}
 use Rattle.receiver.specs.Calls.{silent, listening}
 use Rattle.receiver.proofs.Ranges.{number-in}
 use Rattle.receiver.proofs.Cases.{step-in}
-use borrow.Author.Needs.{needs}
 use Rattle.receiver.proofs.Receiver.step.Statement.{statement}
 use Rattle.receiver.proofs.Receiver.step.Tie as tie
-use Rattle.receiver.proofs.Receiver.step.Reads as reads
-use Rattle.receiver.proofs.Receiver.step.Lts as lts
-use Rattle.codes.proofs.listen.Reads as listen-reads
-use Rattle.receiver.proofs.outcomes.pass.Reads as pass-reads
-use Rattle.receiver.proofs.outcomes.silent.Reads as silent-reads
-use Rattle.receiver.proofs.phases.collect.Reads as collect-reads
-use Rattle.receiver.proofs.phases.listen.Reads as phases-listen-reads
-use Rattle.receiver.proofs.states.in_range.Reads as in-range-reads
 
 abbrev was : tie.After-in-range → Receiver
 was s = s .before .args .self
@@ -46,8 +38,8 @@ enum-known-phase c = search needs
 listen-requires : tie.Need-listen-requires
 listen-requires c κs = search needs
 
-listen-requires-2 : tie.Need-listen-requires-2
-listen-requires-2 c κs = search needs
+hear-requires : tie.Need-hear-requires
+hear-requires c κs = search needs
 
 silent-requires : tie.Need-silent-requires
 silent-requires c κs = search needs
@@ -73,7 +65,7 @@ returns-3 c =
     let s = t .before .before .before in
     let e : inRange (was s) ≡ true = sym (s .in-range .ensures) ∙ t .before .before .if1 .taken in
     c .silent .ensures
-    ∙ ap silent (c .before .listen2 .ensures
+    ∙ ap silent (c .before .hear .ensures
     ∙ ap (λ (l : Listened). listening l (was s)) (c .before .before .listen .ensures))
     ∙ step-in (was s) (Waiting (t .phase .given .0 .0)) e (t .phase .given .1) (s .before .args .byte)
 
@@ -91,7 +83,7 @@ step-spec =
     collect-requires
     enum-known-phase
     listen-requires
-    listen-requires-2
+    hear-requires
     silent-requires
     silent-requires-2
     returns

@@ -1,6 +1,6 @@
 -- `receiver::outcomes::accept` meets its contract: an array of fifteen is full. Assumes nothing.
-use Rattle.receiver.proofs.Cases.{accepting}
 use borrow.Author.Needs.{needs}
+use Rattle.receiver.proofs.Cases.{accepting}
 use Rattle.receiver.proofs.outcomes.accept.Statement.{statement}
 use Rattle.receiver.proofs.outcomes.accept.Tie as tie
 

@@ -2,19 +2,12 @@
 use mathlib.Core.Path.{ap, sym, _∙_}
 use mathlib.Core.List.{List}
 use Prim.Native.Nat.{ℕ}
+use borrow.Author.Needs.{needs}
 use Rattle.receiver.specs.declared.Receiver.{Receiver}
 use Rattle.receiver.specs.Calls.{accepted}
 use Rattle.receiver.proofs.Cases.{as-judged}
-use borrow.Author.Needs.{needs}
 use Rattle.receiver.proofs.phases.judge_held.Statement.{statement}
 use Rattle.receiver.proofs.phases.judge_held.Tie as tie
-use Rattle.receiver.proofs.phases.judge_held.Reads as reads
-use Rattle.receiver.proofs.phases.judge_held.Lts as lts
-use Rattle.block.proofs.values.Reads as values-reads
-use Rattle.reader.proofs.mend.Reads as mend-reads
-use Rattle.receiver.proofs.outcomes.accept.Reads as accept-reads
-use Rattle.receiver.proofs.phases.accepts.Reads as accepts-reads
-use Rattle.receiver.proofs.requests.repeat.Reads as repeat-reads
 
 abbrev was : tie.After-mend → Receiver
 was m = m .before .before .before .args .r

@@ -1,7 +1,7 @@
--- `receiver::phases::listen` meets its contract. Assumes nothing.
+-- `receiver::phases::hear` meets its contract. Assumes nothing.
 use borrow.Author.Needs.{needs}
-use Rattle.receiver.proofs.phases.listen.Statement.{statement}
-use Rattle.receiver.proofs.phases.listen.Tie as tie
+use Rattle.receiver.proofs.phases.hear.Statement.{statement}
+use Rattle.receiver.proofs.phases.hear.Tie as tie
 
 enum-known-heard : tie.Need-enum-known-heard
 enum-known-heard c = search needs
@@ -18,5 +18,5 @@ returns c = simp (c .before .heard .given .1)
 returns-2 : tie.Need-returns-2
 returns-2 c = simp (c .emptied .ensures, c .before .enum-told .given .1)
 
-pub listen-spec : {M : Type 1} → statement M
-listen-spec = tie.close (tie.spec enum-known-heard enum-told emptied-requires returns returns-2)
+pub hear-spec : {M : Type 1} → statement M
+hear-spec = tie.close (tie.spec enum-known-heard enum-told emptied-requires returns returns-2)
