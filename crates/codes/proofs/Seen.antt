@@ -180,7 +180,8 @@ heard x ws b = first (eqb b syn) refl
         )
 
     first : (t : Bool) → eqb b syn ≡ t
-        → Heard x ws b (cond t (Seen (oneMore (seenIn ws))) (cond (eqb (seenIn ws) 2 && eqb b (four x)) Resumed (Seen 0)))
+        → Heard x ws b
+        (cond t (Seen (oneMore (seenIn ws))) (cond (eqb (seenIn ws) 2 && eqb b (four x)) Resumed (Seen 0)))
     first true e = inr (λ d. syn-four x (sym (eqb-true b syn e) ∙ ends-last x ws b d .1), counted e)
     first false e = last (eqb (seenIn ws) 2 && eqb b (four x)) e refl
 

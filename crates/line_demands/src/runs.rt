@@ -110,13 +110,14 @@ pub fn the_line_comes_through_whole()
     ensures asked { λ _. ⌜ ((vs : List ℕ) (j i k : ℕ) → Values vs → j < blocksFor vs → i < 136 → k < 136 → (i ≡ k → ⊥)
         → (before noise : List ℕ) → Arrives (take j (madeOf vs)) before → Nowhere (j % 16) noise
         → (r : Receiver) → InRange r
-        → let heard = before ++ flip i (flip k (getD (madeOf vs) j [])) ++ noise in
+        → let hit = flip i (flip k (getD (madeOf vs) j [])) in let heard = before ++ hit ++ noise in
         (allPassed (sent r (on ∷ map byte heard)) ≡ take (15 * j) (filled vs))
         × (allAsked (sent r (on ∷ map byte heard)) ≡ request (j % 16))) ⌝ }
     ensures once { λ _. ⌜ ((vs : List ℕ) (j i k : ℕ) → Values vs → j < blocksFor vs → i < 136 → k < 136 → (i ≡ k → ⊥)
         → (before noise : List ℕ) → Arrives (take j (madeOf vs)) before → Nowhere (j % 16) noise
         → (r : Receiver) → InRange r → (after : List ℕ) → Arrives (drop j (madeOf vs)) after
-        → let heard = before ++ flip i (flip k (getD (madeOf vs) j [])) ++ noise ++ (syn ∷ syn ∷ four (j % 16) ∷ after) in
+        → let hit = flip i (flip k (getD (madeOf vs) j [])) in
+        let heard = before ++ hit ++ noise ++ (syn ∷ syn ∷ four (j % 16) ∷ after) in
         (allPassed (sent r (on ∷ map byte heard)) ≡ filled vs)
         × (allAsked (sent r (on ∷ map byte heard)) ≡ request (j % 16))) ⌝ }
     ensures met { λ _. ⌜ ((vs : List ℕ) → Arrives (madeOf vs) (joined (madeOf vs))) × ((x : ℕ) → Nowhere x []) ⌝ }
