@@ -23,7 +23,7 @@ ghost use Rattle.receiver.specs.Runs.{switches, unswitched, bytesOf, blocksIn, 
 ghost use Rattle.receiver.specs.Page.{passes, asks, askedIn, atLast, whileWaiting, Stand, Course};
 ghost use Rattle.receiver.specs.Page.{standOf, Stands, IsWaiting};
 ghost use Rattle.receiver.specs.Alike.{Alike, AlikeSteps};
-ghost use Rattle.receiver.specs.Line.{blocksFor, madeOf, filled, joined, Arrives};
+ghost use Rattle.receiver.specs.Line.{blocksFor, madeOf, filled, joined, Arrives, Sending};
 
 // A run over some events and then others is the run over the first, then over the others; what goes out is joined.
 pub fn a_run_is_the_run_over_its_parts()
@@ -121,4 +121,12 @@ pub fn the_line_comes_through_whole()
         (allPassed (sent r (on ∷ map byte heard)) ≡ filled vs)
         × (allAsked (sent r (on ∷ map byte heard)) ≡ request (j % 16))) ⌝ }
     ensures met { λ _. ⌜ ((vs : List ℕ) → Arrives (madeOf vs) (joined (madeOf vs))) × ((x : ℕ) → Nowhere x []) ⌝ }
+{}
+
+// However often a block is hit at two bits and sent again, whatever is on its way before the sender begins again: each
+// block passes once, in its order, and one request has gone out for each of those, naming it. So a resent block is
+// never taken for a new one.
+pub fn a_resent_block_passes_once()
+    ensures { λ _. ⌜ ((r : Receiver) → InRange r → (vs bs qs : List ℕ) → Values vs → Sending 0 (madeOf vs) bs qs
+        → (allPassed (sent r (on ∷ map byte bs)) ≡ filled vs) × (allAsked (sent r (on ∷ map byte bs)) ≡ qs)) ⌝ }
 {}

@@ -2,12 +2,13 @@
 -- from there on. Assumes nothing.
 use mathlib.Core.Path.{_≡_, refl, sym, ap, ap₂, _∙_, subst, subst⁻¹}
 use mathlib.Core.Bool.{true}
-use mathlib.Core.List.{List, [], _∷_, _++_, map, map-append, append-assoc, append-nil}
+use mathlib.Core.List.{List, [], _∷_, _++_, map, map-append, append-assoc, append-nil, head-eq-of-cons-eq}
 use Prim.Native.Nat.{ℕ, _+_, _*_, _%_, _≤_, _<_}
 use native.Mathlib.Nat.{mod-lt, zero-lt-suc}
 use native.Mathlib.Omega.{arith}
-use lib.ListN.{length, getD, take, drop}
-use lib.Seq.{length-take-le}
+use lib.ListN.{length, getD, take, drop, length-map}
+use lib.Seq.{length-take-le, take-at, drop-at}
+use Rattle.laws.proofs.Lists.{nil-cons}
 use Rattle.validity.specs.Changed.{flip, Near, same, changed}
 use Rattle.validity.specs.Block.{Valid}
 use Rattle.validity.proofs.Flips.{flip-length}
@@ -23,9 +24,10 @@ use Rattle.receiver.specs.declared.Receiver.{Receiver}
 use Rattle.receiver.specs.declared.Stepped.{Stepped}
 use Rattle.receiver.specs.States.{InRange, emptied}
 use Rattle.receiver.specs.Calls.{padded, silent, stepped}
-use Rattle.receiver.specs.Runs.{Event, byte, on, run, Sent, sentBy, sent, allPassed, allAsked, unswitched}
+use Rattle.receiver.specs.Runs.{byte, on, run, Sent, sentBy, sent, allPassed, allAsked, unswitched}
 use Rattle.receiver.specs.Runs.{bytesOf}
 use Rattle.receiver.specs.Page.{whileWaiting, awaiting}
+use Rattle.receiver.specs.Line.{Twice, twice, Sending, through, resent}
 use Rattle.receiver.specs.Line.{blocksFor, fifteens, madeOf, filled, joined, Arrives, nothingMore}
 use Rattle.receiver.specs.Line.{blockThen}
 use Rattle.receiver.proofs.Kept.{on-afresh, emptied-in, runs-keep, run-append, sent-append}
@@ -204,6 +206,17 @@ again-is x ps ws bs =
     ∙ append-assoc (ws ++ (syn ∷ [])) (syn ∷ []) (four x ∷ bs) ∙ append-assoc ws (syn ∷ []) (syn ∷ four x ∷ bs))
     ∙ sym (append-assoc ps ws (syn ∷ syn ∷ four x ∷ bs))
 
+recast : {r q : Receiver} {bs cs vs us qs : List ℕ} → bs ≡ cs → vs ≡ us → Hears r bs vs qs q → Hears r cs us qs q
+recast {r} {q} {bs} {cs} {vs} {us} {qs} e f h =
+    subst (λ (l : List ℕ). Hears r cs l qs q) f (subst (λ (l : List ℕ). Hears r l vs qs q) e h)
+
+-- nothing passes between the two parts
+all-values : (j : ℕ) (uss : List (List ℕ)) → values (take j uss) ++ [] ++ [] ++ values (drop j uss) ≡ values uss
+all-values j uss =
+    ap (λ (l : List ℕ). l ++ values (drop j uss))
+    (append-nil (values (take j uss) ++ []) ∙ append-nil (values (take j uss)))
+    ∙ both-values j uss
+
 module _ (vs : List ℕ) (j i k : ℕ) (f : Values vs) (jn : j < blocksFor vs) (hi : i < 136) (hk : k < 136)
     (ne : i ≡ k → ⊥) where
   abbrev uss : List (List ℕ)
@@ -257,20 +270,58 @@ module _ (vs : List ℕ) (j i k : ℕ) (f : Values vs) (jn : j < blocksFor vs) (
         × (allAsked (sent r (on ∷ map byte (before ++ hit ++ noise ++ (syn ∷ syn ∷ four (j % 16) ∷ after))))
         ≡ request (j % 16))
     each-once r g after aa =
-        let s = behind (before ++ hit ++ again (j % 16) noise) after
+        on-heard r g
+        (recast (again-is (j % 16) (before ++ hit) noise after) (all-values j uss ∙ values-filled vs)
+        (behind (before ++ hit ++ again (j % 16) noise) after
         (behind (before ++ hit) (again (j % 16) noise) hit-heard (resumption-heard (j % 16) x-lt noise none))
         (blocks-heard (drop j uss) (j % 16) (cut-drop j uss uss-cut) x-lt
-        (subst (λ (Ws : List (List ℕ)). Arrives Ws after) (map-drop blockOf j uss) aa)) in
-        let p = on-heard r g s in
-        let e : on ∷ map byte (before ++ hit ++ again (j % 16) noise ++ after)
-        ≡ on ∷ map byte (before ++ hit ++ noise ++ (syn ∷ syn ∷ four (j % 16) ∷ after)) =
-        ap (λ (bs : List ℕ). on ∷ map byte bs) (again-is (j % 16) (before ++ hit) noise after) in (
-          ap (λ (es : List Event). allPassed (sent r es)) (sym e) ∙ p .0
-              ∙ ap (λ (l : List ℕ). l ++ values (drop j uss))
-              (append-nil (values (take j uss) ++ []) ∙ append-nil (values (take j uss)))
-              ∙ both-values j uss ∙ values-filled vs,
-          ap (λ (es : List Event). allAsked (sent r es)) (sym e) ∙ p .1,
-        )
+        (subst (λ (Ws : List (List ℕ)). Arrives Ws after) (map-drop blockOf j uss) aa))))
+
+-- ---- however often a block is hit at two bits
+
+twice-asked : {W B : List ℕ} (x : ℕ) → Valid W → x < 16 → Twice W B
+    → Hears (emptied x Collecting) B [] (request x) (emptied x (Waiting 0))
+twice-asked {W} x v h (twice i k hi hk ne) = twice-heard W i k x v hi hk ne h
+
+-- the block that begins what is left of made ones is valid
+first-valid : (uss : List (List ℕ)) {W : List ℕ} {Ws : List (List ℕ)} → Cut uss → W ∷ Ws ≡ map blockOf uss → Valid W
+first-valid [] c e = absurd (nil-cons (sym e))
+first-valid (us ∷ uss) c e = subst⁻¹ Valid (head-eq-of-cons-eq e) (made-valid us (c .0))
+
+sending-heard : {x : ℕ} {Vs : List (List ℕ)} {bs qs : List ℕ} (uss : List (List ℕ)) → Cut uss → x < 16
+    → Vs ≡ map blockOf uss → Sending x Vs bs qs → (q : Receiver) × Hears (emptied x Collecting) bs (values uss) qs q
+sending-heard {x} uss c h e (through {bs = bs} a) = (
+  emptied ((x + length uss) % 16) Collecting,
+  blocks-heard uss x c h (subst (λ (Ws : List (List ℕ)). Arrives Ws bs) e a),
+)
+sending-heard {x} uss c h e (resent {Us = Us} {Ws = Ws} {W = W} {B = B} {before = before} {noise = noise} {bs = bs} a t n s) =
+    let j : ℕ = length Us in
+    let y : ℕ = (x + j) % 16 in
+    let y-in : y < 16 = mod-lt (x + j) (zero-lt-suc 15) in
+    let first : Us ≡ map blockOf (take j uss) =
+    sym (take-at Us (W ∷ Ws) j refl) ∙ ap (take j) e ∙ map-take blockOf j uss in
+    let others : W ∷ Ws ≡ map blockOf (drop j uss) =
+    sym (drop-at Us (W ∷ Ws) j refl) ∙ ap (drop j) e ∙ map-drop blockOf j uss in
+    let many : length (take j uss) ≡ j = sym (length-map (take j uss) blockOf) ∙ ap length (sym first) in
+    let came : Hears (emptied x Collecting) before (values (take j uss)) [] (emptied y Collecting) =
+    subst (λ (m : ℕ). Hears (emptied x Collecting) before (values (take j uss)) [] (emptied ((x + m) % 16) Collecting))
+    many
+    (blocks-heard (take j uss) x (cut-take j uss c) h
+    (subst (λ (Us : List (List ℕ)). Arrives Us before) first a)) in
+    let went = sending-heard (drop j uss) (cut-drop j uss c) y-in others s in
+    let v : Valid W = first-valid (drop j uss) (cut-drop j uss c) others in
+    let all = behind (before ++ B ++ again y noise) bs
+    (behind (before ++ B) (again y noise) (behind before B came (twice-asked y v y-in t)) (resumption-heard y y-in noise n))
+    (went .1) in
+    (went .0, recast (again-is y (before ++ B) noise bs) (all-values j uss) all)
+
+-- however often that happens, each block passes once, and what is asked is what the sender is asked for
+pub sending : (r : Receiver) → InRange r → (vs bs qs : List ℕ) → Values vs → Sending 0 (madeOf vs) bs qs
+    → (allPassed (sent r (on ∷ map byte bs)) ≡ filled vs) × (allAsked (sent r (on ∷ map byte bs)) ≡ qs)
+sending r g vs bs qs f s =
+    let i = sending-heard (fifteens (blocksFor vs) vs) (cut (blocksFor vs) vs f) (omega arith) refl s in
+    let p = on-heard r g (i .1) in
+    (p .0 ∙ values-filled vs, p .1)
 
 -- ---- such lines exist
 

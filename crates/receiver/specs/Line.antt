@@ -1,10 +1,12 @@
 -- The line whole: any values cut into fifteens and made into blocks, and what arrives of these. Assumes nothing.
+use mathlib.Core.Path.{_≡_}
 use mathlib.Core.List.{List, [], _∷_, _++_, map}
-use Prim.Native.Nat.{ℕ, zero, suc, _+_, _-_, _*_, _/_}
+use Prim.Native.Nat.{ℕ, zero, suc, _+_, _-_, _*_, _/_, _%_, _<_}
 use lib.ListN.{length, take, drop, replicate}
-use Rattle.validity.specs.Changed.{Near}
+use Rattle.validity.specs.Changed.{flip, Near}
 use Rattle.maker.specs.Making.{blockOf}
 use Rattle.reader.specs.Judging.{mendable}
+use Rattle.codes.specs.Codes.{syn, four, request, Nowhere}
 
 -- how many blocks the values take
 abbrev pub blocksFor : List ℕ → ℕ
@@ -33,3 +35,18 @@ pub data Arrives : List (List ℕ) → List ℕ → Type 0 where
   nothingMore : Arrives [] []
   blockThen : {W B : List ℕ} {Ws : List (List ℕ)} {bs : List ℕ} → Near mendable W B → Arrives Ws bs
       → Arrives (W ∷ Ws) (B ++ bs)
+
+-- a block as it arrives hit at two different bits of all 136
+pub data Twice (W : List ℕ) : List ℕ → Type 0 where
+  twice : (i k : ℕ) → i < 136 → k < 136 → (i ≡ k → ⊥) → Twice W (flip i (flip k W))
+
+-- `Sending x Ws bs qs`: of blocks Ws, the first of them numbered x, bytes bs arrive, and qs is what the sender is
+-- asked for meanwhile
+pub data Sending : ℕ → List (List ℕ) → List ℕ → List ℕ → Type 0 where
+  -- all of them come through
+  through : {x : ℕ} {Ws : List (List ℕ)} {bs : List ℕ} → Arrives Ws bs → Sending x Ws bs []
+  -- some do, the next is hit at two bits, whatever is on its way arrives, and the sender begins again with that block
+  resent : {x : ℕ} {Us Ws : List (List ℕ)} {W B before noise bs qs : List ℕ} → Arrives Us before → Twice W B
+      → Nowhere ((x + length Us) % 16) noise → Sending ((x + length Us) % 16) (W ∷ Ws) bs qs
+      → Sending x (Us ++ (W ∷ Ws)) (before ++ B ++ noise ++ (syn ∷ syn ∷ four ((x + length Us) % 16) ∷ bs))
+      (request ((x + length Us) % 16) ++ qs)
