@@ -30,7 +30,7 @@ module _ {A : Type 0} where
   unfolding Filled
   nil-cons e = subst⁻¹ Filled e tt
 
-  pub nil-snoc : (xs : List A) (x : A) → [] ≡ xs ++ (x ∷ []) → ⊥
+  nil-snoc : (xs : List A) (x : A) → [] ≡ xs ++ (x ∷ []) → ⊥
   nil-snoc [] x e = nil-cons e
   nil-snoc (y ∷ xs) x e = nil-cons e
 

@@ -75,7 +75,7 @@ stands-in r Collecting g f =
     (f, refl, sym (length-take-le (r .count) (r .held) (omega (arith, g .array))), refl)
 stands-in r (Waiting n) g f = (f ∙ ap Waiting (sym (seen-syns n (seen-in r (g .range) n f))), refl)
 
-pub stands-at : (r : Receiver) → InRange r → At r (standOf r)
+stands-at : (r : Receiver) → InRange r → At r (standOf r)
 stands-at r g = stands-in r (r .phase) g refl
 
 -- ---- one byte
@@ -182,7 +182,7 @@ follows-one ask r s g a = ask-follows r s g a
 
 -- ---- a whole run
 
-pub follows-from : (es : List Event) (r : Receiver) (s : Stand) → InRange r → At r s
+follows-from : (es : List Event) (r : Receiver) (s : Stand) → InRange r → At r s
     → (t : Stand) × Course s es (sent r es) t × At (run r es) t
 follows-from [] r s g a = (s, done, a)
 follows-from (e ∷ es) r s g a =

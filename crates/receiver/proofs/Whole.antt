@@ -7,7 +7,7 @@ use Prim.Native.Nat.{ℕ, _+_, _*_, _%_, _≤_, _<_}
 use native.Mathlib.Nat.{mod-lt, zero-lt-suc}
 use native.Mathlib.Omega.{arith}
 use lib.ListN.{length, getD, take, drop, length-map}
-use lib.Seq.{length-take-le, take-at, drop-at}
+use lib.Seq.{length-take-le, take-at, drop-at, split-at, drop-cons}
 use Rattle.laws.proofs.Lists.{nil-cons}
 use Rattle.validity.specs.Changed.{flip, Near, same, changed}
 use Rattle.validity.specs.Block.{Valid}
@@ -184,15 +184,7 @@ module _ (r : Receiver) (g : InRange r) where
       ap (λ (c : Stepped). sentBy c ∷ sent (c .next) (map byte bs)) (on-afresh r g) in
       (ap allPassed e ∙ k .passed, ap allAsked e ∙ k .asked)
 
-  -- each block hit at no bit or at one mendable bit: the values pass, and nothing is asked
-  pub line-whole : (vs bs : List ℕ) → Values vs → Arrives (madeOf vs) bs
-      → (allPassed (sent r (on ∷ map byte bs)) ≡ filled vs) × (allAsked (sent r (on ∷ map byte bs)) ≡ [])
-  line-whole vs bs f a =
-      let i = blocks-heard (fifteens (blocksFor vs) vs) 0 (cut (blocksFor vs) vs f) (omega arith) a in
-      let p = on-heard i in
-      (p .0 ∙ values-filled vs, p .1)
-
--- ---- block j is the first that is hit at two bits
+-- ---- however often a block is hit at two bits
 
 -- what the sender begins again with
 abbrev again : ℕ → List ℕ → List ℕ
@@ -216,6 +208,59 @@ all-values j uss =
     ap (λ (l : List ℕ). l ++ values (drop j uss))
     (append-nil (values (take j uss) ++ []) ∙ append-nil (values (take j uss)))
     ∙ both-values j uss
+
+twice-asked : {W B : List ℕ} (x : ℕ) → Valid W → x < 16 → Twice W B
+    → Hears (emptied x Collecting) B [] (request x) (emptied x (Waiting 0))
+twice-asked {W} x v h (twice i k hi hk ne) = twice-heard W i k x v hi hk ne h
+
+-- the block that begins what is left of made ones is valid
+first-valid : (uss : List (List ℕ)) {W : List ℕ} {Ws : List (List ℕ)} → Cut uss → W ∷ Ws ≡ map blockOf uss → Valid W
+first-valid [] c e = absurd (nil-cons (sym e))
+first-valid (us ∷ uss) c e = subst⁻¹ Valid (head-eq-of-cons-eq e) (made-valid us (c .0))
+
+sending-heard : {x : ℕ} {Vs : List (List ℕ)} {bs qs : List ℕ} (uss : List (List ℕ)) → Cut uss → x < 16
+    → Vs ≡ map blockOf uss → Sending x Vs bs qs → (q : Receiver) × Hears (emptied x Collecting) bs (values uss) qs q
+sending-heard {x} uss c h e (through {bs = bs} a) = (
+  emptied ((x + length uss) % 16) Collecting,
+  blocks-heard uss x c h (subst (λ (Ws : List (List ℕ)). Arrives Ws bs) e a),
+)
+sending-heard {x} uss c h e
+    (resent {Us = Us} {Ws = Ws} {W = W} {B = B} {before = before} {noise = noise} {bs = bs} a t n s) =
+    let j : ℕ = length Us in
+    let y : ℕ = (x + j) % 16 in
+    let y-in : y < 16 = mod-lt (x + j) (zero-lt-suc 15) in
+    let first : Us ≡ map blockOf (take j uss) =
+    sym (take-at Us (W ∷ Ws) j refl) ∙ ap (take j) e ∙ map-take blockOf j uss in
+    let others : W ∷ Ws ≡ map blockOf (drop j uss) =
+    sym (drop-at Us (W ∷ Ws) j refl) ∙ ap (drop j) e ∙ map-drop blockOf j uss in
+    let many : length (take j uss) ≡ j = sym (length-map (take j uss) blockOf) ∙ ap length (sym first) in
+    let came : Hears (emptied x Collecting) before (values (take j uss)) [] (emptied y Collecting) =
+    subst (λ (m : ℕ). Hears (emptied x Collecting) before (values (take j uss)) [] (emptied ((x + m) % 16) Collecting))
+    many
+    (blocks-heard (take j uss) x (cut-take j uss c) h
+    (subst (λ (Us : List (List ℕ)). Arrives Us before) first a)) in
+    let went = sending-heard (drop j uss) (cut-drop j uss c) y-in others s in
+    let v : Valid W = first-valid (drop j uss) (cut-drop j uss c) others in
+    let all = behind (before ++ B ++ again y noise) bs
+    (behind (before ++ B) (again y noise) (behind before B came (twice-asked y v y-in t))
+    (resumption-heard y y-in noise n))
+    (went .1) in
+    (went .0, recast (again-is y (before ++ B) noise bs) (all-values j uss) all)
+
+-- each block passes once, and what is asked is what the sender is asked for
+pub sending : (r : Receiver) → InRange r → (vs bs qs : List ℕ) → Values vs → Sending 0 (madeOf vs) bs qs
+    → (allPassed (sent r (on ∷ map byte bs)) ≡ filled vs) × (allAsked (sent r (on ∷ map byte bs)) ≡ qs)
+sending r g vs bs qs f s =
+    let i = sending-heard (fifteens (blocksFor vs) vs) (cut (blocksFor vs) vs f) (omega arith) refl s in
+    let p = on-heard r g (i .1) in
+    (p .0 ∙ values-filled vs, p .1)
+
+-- all of them come through
+pub line-whole : (r : Receiver) → InRange r → (vs bs : List ℕ) → Values vs → Arrives (madeOf vs) bs
+    → (allPassed (sent r (on ∷ map byte bs)) ≡ filled vs) × (allAsked (sent r (on ∷ map byte bs)) ≡ [])
+line-whole r g vs bs f a = sending r g vs bs [] f (through a)
+
+-- ---- block j is the first that is hit at two bits
 
 module _ (vs : List ℕ) (j i k : ℕ) (f : Values vs) (jn : j < blocksFor vs) (hi : i < 136) (hk : k < 136)
     (ne : i ≡ k → ⊥) where
@@ -263,65 +308,25 @@ module _ (vs : List ℕ) (j i k : ℕ) (f : Values vs) (jn : j < blocksFor vs) (
         let p = on-heard r g (behind (before ++ hit) noise hit-heard (noise-heard (j % 16) x-lt noise none)) in
         (p .0 ∙ first-passed, p .1)
 
+    abbrev begunAgain : ℕ → List ℕ → List ℕ
+    begunAgain x after = before ++ hit ++ noise ++ (syn ∷ syn ∷ four x ∷ after)
+
     -- then it and the blocks behind it pass, and nothing more is asked
     pub each-once : (r : Receiver) → InRange r → (after : List ℕ) → Arrives (drop j (madeOf vs)) after
-        → (allPassed (sent r (on ∷ map byte (before ++ hit ++ noise ++ (syn ∷ syn ∷ four (j % 16) ∷ after))))
-        ≡ filled vs)
-        × (allAsked (sent r (on ∷ map byte (before ++ hit ++ noise ++ (syn ∷ syn ∷ four (j % 16) ∷ after))))
-        ≡ request (j % 16))
+        → (allPassed (sent r (on ∷ map byte (begunAgain (j % 16) after))) ≡ filled vs)
+        × (allAsked (sent r (on ∷ map byte (begunAgain (j % 16) after))) ≡ request (j % 16))
     each-once r g after aa =
-        on-heard r g
-        (recast (again-is (j % 16) (before ++ hit) noise after) (all-values j uss ∙ values-filled vs)
-        (behind (before ++ hit ++ again (j % 16) noise) after
-        (behind (before ++ hit) (again (j % 16) noise) hit-heard (resumption-heard (j % 16) x-lt noise none))
-        (blocks-heard (drop j uss) (j % 16) (cut-drop j uss uss-cut) x-lt
-        (subst (λ (Ws : List (List ℕ)). Arrives Ws after) (map-drop blockOf j uss) aa))))
-
--- ---- however often a block is hit at two bits
-
-twice-asked : {W B : List ℕ} (x : ℕ) → Valid W → x < 16 → Twice W B
-    → Hears (emptied x Collecting) B [] (request x) (emptied x (Waiting 0))
-twice-asked {W} x v h (twice i k hi hk ne) = twice-heard W i k x v hi hk ne h
-
--- the block that begins what is left of made ones is valid
-first-valid : (uss : List (List ℕ)) {W : List ℕ} {Ws : List (List ℕ)} → Cut uss → W ∷ Ws ≡ map blockOf uss → Valid W
-first-valid [] c e = absurd (nil-cons (sym e))
-first-valid (us ∷ uss) c e = subst⁻¹ Valid (head-eq-of-cons-eq e) (made-valid us (c .0))
-
-sending-heard : {x : ℕ} {Vs : List (List ℕ)} {bs qs : List ℕ} (uss : List (List ℕ)) → Cut uss → x < 16
-    → Vs ≡ map blockOf uss → Sending x Vs bs qs → (q : Receiver) × Hears (emptied x Collecting) bs (values uss) qs q
-sending-heard {x} uss c h e (through {bs = bs} a) = (
-  emptied ((x + length uss) % 16) Collecting,
-  blocks-heard uss x c h (subst (λ (Ws : List (List ℕ)). Arrives Ws bs) e a),
-)
-sending-heard {x} uss c h e (resent {Us = Us} {Ws = Ws} {W = W} {B = B} {before = before} {noise = noise} {bs = bs} a t n s) =
-    let j : ℕ = length Us in
-    let y : ℕ = (x + j) % 16 in
-    let y-in : y < 16 = mod-lt (x + j) (zero-lt-suc 15) in
-    let first : Us ≡ map blockOf (take j uss) =
-    sym (take-at Us (W ∷ Ws) j refl) ∙ ap (take j) e ∙ map-take blockOf j uss in
-    let others : W ∷ Ws ≡ map blockOf (drop j uss) =
-    sym (drop-at Us (W ∷ Ws) j refl) ∙ ap (drop j) e ∙ map-drop blockOf j uss in
-    let many : length (take j uss) ≡ j = sym (length-map (take j uss) blockOf) ∙ ap length (sym first) in
-    let came : Hears (emptied x Collecting) before (values (take j uss)) [] (emptied y Collecting) =
-    subst (λ (m : ℕ). Hears (emptied x Collecting) before (values (take j uss)) [] (emptied ((x + m) % 16) Collecting))
-    many
-    (blocks-heard (take j uss) x (cut-take j uss c) h
-    (subst (λ (Us : List (List ℕ)). Arrives Us before) first a)) in
-    let went = sending-heard (drop j uss) (cut-drop j uss c) y-in others s in
-    let v : Valid W = first-valid (drop j uss) (cut-drop j uss c) others in
-    let all = behind (before ++ B ++ again y noise) bs
-    (behind (before ++ B) (again y noise) (behind before B came (twice-asked y v y-in t)) (resumption-heard y y-in noise n))
-    (went .1) in
-    (went .0, recast (again-is y (before ++ B) noise bs) (all-values j uss) all)
-
--- however often that happens, each block passes once, and what is asked is what the sender is asked for
-pub sending : (r : Receiver) → InRange r → (vs bs qs : List ℕ) → Values vs → Sending 0 (madeOf vs) bs qs
-    → (allPassed (sent r (on ∷ map byte bs)) ≡ filled vs) × (allAsked (sent r (on ∷ map byte bs)) ≡ qs)
-sending r g vs bs qs f s =
-    let i = sending-heard (fifteens (blocksFor vs) vs) (cut (blocksFor vs) vs f) (omega arith) refl s in
-    let p = on-heard r g (i .1) in
-    (p .0 ∙ values-filled vs, p .1)
+        let Ws : List (List ℕ) = madeOf vs in
+        let h : j < length Ws = subst⁻¹ (λ (n : ℕ). j < n) (length-map uss blockOf) uss-long in
+        let y : ℕ = (0 + length (take j Ws)) % 16 in
+        let e : y ≡ j % 16 = ap (λ (n : ℕ). (0 + n) % 16) (length-take-le j Ws (omega (arith, h))) ∙ omega arith in
+        subst
+        (λ (x : ℕ). (allPassed (sent r (on ∷ map byte (begunAgain x after))) ≡ filled vs)
+        × (allAsked (sent r (on ∷ map byte (begunAgain x after))) ≡ request x)) e
+        (sending r g vs (begunAgain y after) (request y) f
+        (subst⁻¹ (λ (Us : List (List ℕ)). Sending 0 Us (begunAgain y after) (request y)) (split-at Ws j [] h)
+        (resent ab (twice i k hi hk ne) (subst⁻¹ (λ (x : ℕ). Nowhere x noise) e none)
+        (through (subst (λ (Us : List (List ℕ)). Arrives Us after) (drop-cons Ws j [] h) aa)))))
 
 -- ---- such lines exist
 
