@@ -11,4 +11,5 @@ pub mod Waits
 pub mod Past
 pub mod Seventeen
 pub mod Fifteens
+pub mod Heard
 pub mod Whole
