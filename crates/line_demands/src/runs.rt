@@ -20,8 +20,8 @@ ghost use Rattle.receiver.specs.States.{InRange, emptied, newReceiver};
 ghost use Rattle.receiver.specs.Calls.{silent, stepped, switchedOn, switchedOff, askedAgain};
 ghost use Rattle.receiver.specs.Runs.{Event, byte, on, obey, run, Sent, sentBy, sent, allPassed, allAsked};
 ghost use Rattle.receiver.specs.Runs.{switches, unswitched, bytesOf, blocksIn, blocksSince};
-ghost use Rattle.receiver.specs.Page.{passes, asks, askedIn, atLast, whileWaiting, Stand, Course};
-ghost use Rattle.receiver.specs.Page.{standOf, Stands, IsWaiting};
+ghost use Rattle.receiver.specs.Page.{passes, asks, atLast, whileWaiting, Stand, Course};
+ghost use Rattle.receiver.specs.Standing.{standOf, IsWaiting, Stands, askedIn};
 ghost use Rattle.receiver.specs.Alike.{Alike, AlikeSteps};
 ghost use Rattle.receiver.specs.Line.{blocksFor, madeOf, filled, joined, Arrives, Sending};
 

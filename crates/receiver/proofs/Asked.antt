@@ -11,7 +11,7 @@ use Rattle.receiver.specs.declared.Stepped.{Stepped}
 use Rattle.receiver.specs.States.{InRange}
 use Rattle.receiver.specs.Calls.{againBy, askedAgain}
 use Rattle.receiver.specs.Runs.{Event, byte, on, off, ask, obey, sentBy}
-use Rattle.receiver.specs.Page.{askedIn, IsWaiting}
+use Rattle.receiver.specs.Standing.{askedIn, IsWaiting}
 use Rattle.receiver.proofs.Shape.{Shape, plain, more, took, none, listens, shape}
 use Rattle.receiver.proofs.Kept.{on-afresh, off-afresh, again-as}
 

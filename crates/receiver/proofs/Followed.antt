@@ -27,7 +27,8 @@ use Rattle.receiver.specs.Calls.{silent, listening, askedAgain, stepped}
 use Rattle.receiver.specs.Runs.{Event, byte, on, off, ask, obey, run, Sent, sentBy, sent}
 use Rattle.receiver.specs.Page.{passes, asks, Stand, idle, midway, awaiting, Says, plain, held, taken}
 use Rattle.receiver.specs.Page.{refused, dropped, resumed, again, midwayAsk, idleAsk, switchedOn}
-use Rattle.receiver.specs.Page.{switchedOff, Course, done, next, standIn, standOf, Stands}
+use Rattle.receiver.specs.Page.{switchedOff, Course, done, next}
+use Rattle.receiver.specs.Standing.{standIn, standOf, Stands}
 use Rattle.receiver.proofs.Ranges.{count-in, seen-in}
 use Rattle.receiver.proofs.Cases.{again-in}
 use Rattle.receiver.proofs.Shape as shapes

@@ -16,7 +16,8 @@ use Rattle.receiver.specs.States.{InRange, emptied}
 use Rattle.receiver.specs.Calls.{silent, listening, stepped}
 use Rattle.receiver.specs.Runs.{Event, byte, on, off, ask, obey, run, Sent, sent, unswitched, bytesOf}
 use Rattle.receiver.specs.Page.{nothing, asks, whileWaiting, Stand, awaiting, Says, dropped, resumed}
-use Rattle.receiver.specs.Page.{again, IsWaiting}
+use Rattle.receiver.specs.Page.{again}
+use Rattle.receiver.specs.Standing.{IsWaiting}
 use Rattle.receiver.proofs.Ranges.{seen-in}
 use Rattle.receiver.proofs.Shape as shapes
 use Rattle.receiver.proofs.Shape.{Shape, shape}

@@ -82,13 +82,15 @@ accepts (Mended k) = true
 accepts Repeat = false
 accepts WrongLength = false
 
--- "At the 17th the block is judged"
+-- accepted or refused, as the verdict is
 abbrev pub judgedAs : Verdict → ℕ → List ℕ → Stepped
 judgedAs v x vs = cond (accepts v) (accepted x vs v) (repeated x v)
 
+-- the verdict on the seventeen bytes, and the values of the block that is left
 abbrev pub judgedHeld : Receiver → ℕ → Stepped
 judgedHeld r b = judgedAs (verdict (whole r b)) (r .number) (valuesOf (left (whole r b)))
 
+-- "Collecting: the byte is held. At the 17th the block is judged"
 abbrev pub collecting : Receiver → ℕ → Stepped
 collecting r b = cond (ltb (r .count) 16) (silent (holding r b)) (judgedHeld r b)
 
@@ -106,11 +108,13 @@ listening Resumed r = emptied (r .number) Collecting
 
 -- ---- the four calls
 
+-- a byte, as the phase is
 abbrev pub byPhase : Phase → Receiver → ℕ → Stepped
 byPhase Off r b = passing r (plainly b)
 byPhase Collecting r b = collecting r b
 byPhase (Waiting n) r b = silent (listening (listened (r .number) n b) r)
 
+-- a broken state is refused before its phase is looked at
 abbrev pub stepped : Receiver → ℕ → Stepped
 stepped r b = cond (inRange r) (byPhase (r .phase) r b) (refused r)
 

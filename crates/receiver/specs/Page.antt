@@ -4,15 +4,12 @@
 use mathlib.Core.Path.{_≡_}
 use mathlib.Core.List.{List, [], _∷_, _++_}
 use Prim.Native.Nat.{ℕ, _+_, _%_, _<_}
-use lib.ListN.{length, take, replicate}
+use lib.ListN.{length, replicate}
 use Rattle.maker.specs.Making.{valuesOf}
 use Rattle.reader.specs.declared.Verdict.the-variants.{Repeat}
 use Rattle.reader.specs.Judging.{verdict}
 use Rattle.reader.specs.Claims.{NoneNear, OnlyNear}
-use Rattle.codes.specs.Codes.{syn, plainly, request, Ends}
-use Rattle.receiver.specs.declared.Phase.{Phase}
-use Rattle.receiver.specs.declared.Phase.the-variants.{Off, Collecting, Waiting}
-use Rattle.receiver.specs.declared.Receiver.{Receiver}
+use Rattle.codes.specs.Codes.{plainly, request, Ends}
 use Rattle.receiver.specs.declared.Judged.{Judged}
 use Rattle.receiver.specs.declared.Judged.the-variants.{Nothing, Block}
 use Rattle.receiver.specs.Runs.{Event, byte, on, off, ask, Sent}
@@ -27,12 +24,6 @@ passes vs j = record { passed = vs; asked = []; judged = j }
 
 abbrev pub asks : ℕ → Judged → Sent
 asks x j = record { passed = []; asked = request x; judged = j }
-
--- "Ask again ..: in waiting it gives the same two request bytes ..; elsewhere it gives none"
-abbrev pub askedIn : Phase → ℕ → Sent
-askedIn Off x = nothing
-askedIn Collecting x = nothing
-askedIn (Waiting n) x = asks x Nothing
 
 -- nothing at the first sixteen bytes of a stretch, and this at the seventeenth
 abbrev pub atLast : Sent → List Sent
@@ -88,24 +79,3 @@ pub data Course : Stand → List Event → List Sent → Stand → Type 0 where
   done : {s : Stand} → Course s [] [] s
   next : {s t u : Stand} {e : Event} {o : Sent} {es : List Event} {os : List Sent}
       → Says s e o t → Course t es os u → Course s (e ∷ es) (o ∷ os) u
-
--- ---- a receiver and where the line stands
-
--- a state handed in stands as though what it holds, or the codes that it has seen, had just arrived
-abbrev pub standIn : Phase → Receiver → Stand
-standIn Off r = idle
-standIn Collecting r = midway (r .number) (take (r .count) (r .held))
-standIn (Waiting n) r = awaiting (r .number) (replicate n syn)
-
-abbrev pub standOf : Receiver → Stand
-standOf r = standIn (r .phase) r
-
-abbrev pub IsWaiting : Receiver → Type 0
-IsWaiting r = (n : ℕ) × (r .phase ≡ Waiting n)
-
--- the receiver stands where the line does: the bytes held are those since the stretch began
-abbrev pub Stands : Receiver → Stand → Type 0
-Stands r idle = r .phase ≡ Off
-Stands r (midway x h) =
-    (r .phase ≡ Collecting) × (r .number ≡ x) × (r .count ≡ length h) × (take (r .count) (r .held) ≡ h)
-Stands r (awaiting x ws) = IsWaiting r × (r .number ≡ x)

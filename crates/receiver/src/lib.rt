@@ -6,7 +6,8 @@
 //
 // Every call takes any state and hands back the next one with all that goes out. specs/States says what a state is,
 // specs/Calls what each call does to it, specs/Runs what a whole run is; specs/Page tells the same page from the
-// line's side, without a receiver, and proofs/ shows that the two agree at every moment of every run.
+// line's side, without a receiver, specs/Standing ties a receiver to it, and proofs/ shows that the two agree at every
+// moment of every run.
 ghost use mathlib.Core.Path.{_≡_};
 ghost use Rattle.receiver.specs.States.{newReceiver};
 ghost use Rattle.receiver.specs.Calls.{stepped, switchedTo, switchedOn, switchedOff, askedAgain};
