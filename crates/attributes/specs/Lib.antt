@@ -1,0 +1,3 @@
+pub mod Attributing
+pub mod Written
+pub mod Within

@@ -1,0 +1,103 @@
+-- Which order a value gives after an unfinished sequence (01, "Screen cells"; code values: 001, part 2, chapter 2).
+-- Assumes nothing.
+use mathlib.Core.Bool.{Bool, true, false, cond, _&&_}
+use mathlib.Core.List.{List, [], _∷_}
+use Prim.Native.Nat.{ℕ, _-_, _/_}
+use lib.Dec.{ltb, leb, eqb}
+use Rattle.sequences.specs.declared.Sequence.{Sequence}
+use Rattle.sequences.specs.declared.Sequence.the-variants.{Free, Escape, Long, Control, Separator, Repeat}
+use Rattle.sequences.specs.declared.Sequence.the-variants.{Single, Address, Row}
+use Rattle.sequences.specs.declared.Order.{Order}
+use Rattle.sequences.specs.declared.Order.the-variants.{Skip, Left, Right, Up, Down, First, Clear, Home}
+use Rattle.sequences.specs.declared.Order.the-variants.{ShiftOut, ShiftIn, Show, Hide, Pair, Go, Write}
+use Rattle.sequences.specs.declared.Order.the-variants.{Second, Again}
+use Rattle.sequences.specs.declared.Heard.{Heard}
+
+-- "In range are: .. an unfinished sequence that the rules below leave open": a row's code is 2/0 to 7/F
+abbrev pub inRange : Sequence → Bool
+inRange Free = true
+inRange Escape = true
+inRange Long = true
+inRange Control = true
+inRange Separator = true
+inRange Repeat = true
+inRange Single = true
+inRange Address = true
+inRange (Row r) = leb 32 r && leb r 127
+
+-- the sequence ends, with this order
+abbrev pub does : Order → Heard
+does o = record { sequence = Free; order = o }
+
+-- the sequence goes on, and nothing is ordered
+abbrev pub opens : Sequence → Heard
+opens q = record { sequence = q; order = Skip }
+
+abbrev pub isSeparator : Sequence → Bool
+isSeparator Free = false
+isSeparator Escape = false
+isSeparator Long = false
+isSeparator Control = false
+isSeparator Separator = true
+isSeparator Repeat = false
+isSeparator Single = false
+isSeparator Address = false
+isSeparator (Row r) = false
+
+-- ---- C0 codes
+
+-- what stands beside b in a table, or the last argument
+abbrev pub among : ℕ → List (ℕ × Heard) → Heard → Heard
+among b [] d = d
+among b (e ∷ es) d = cond (eqb b (e .0)) (e .1) (among b es d)
+
+-- the codes obeyed: BS HT LF VT FF CR SO SI (0/8 to 0/F), CON REP SEP COFF (1/1 to 1/4), SS2 (1/9), ESC (1/B),
+-- RS US (1/E, 1/F); "other C0 codes: no action"
+abbrev pub control : ℕ → Heard
+control b =
+    among b
+    ((8, does Left) ∷ (9, does Right) ∷ (10, does Down) ∷ (11, does Up) ∷ (12, does Clear) ∷ (13, does First)
+    ∷ (14, does ShiftOut) ∷ (15, does ShiftIn) ∷ (17, does Show) ∷ (18, opens Repeat) ∷ (19, opens Separator)
+    ∷ (20, does Hide) ∷ (25, opens Single) ∷ (27, opens Escape) ∷ (30, does Home) ∷ (31, opens Address) ∷ [])
+    (does Skip)
+
+-- ---- codes from 2/0
+
+-- "ESC and column 2: dropped up to .."; "ESC 5/B: dropped up to .."; any other code makes a pair with ESC
+abbrev pub escaped : ℕ → Heard
+escaped c = cond (ltb c 48) (opens Long) (cond (eqb c 91) (opens Control) (does (Pair c)))
+
+-- "dropped up to a code of 3/0 to 7/E"
+abbrev pub longer : ℕ → Heard
+longer c = cond (leb 48 c && leb c 126) (does Skip) (opens Long)
+
+-- "dropped up to a code of 4/0 to 7/E"
+abbrev pub controlled : ℕ → Heard
+controlled c = cond (leb 64 c && leb c 126) (does Skip) (opens Control)
+
+-- "REP n, n from 4/0 to 7/F: .. n minus 64 times more"; "Other n from 2/0: dropped"
+abbrev pub again : ℕ → Heard
+again c = cond (ltb c 64) (does Skip) (does (Again (c - 64)))
+
+-- "SS2 and a code from 2/0: a G2 cell; a code of column 4 is swallowed"
+abbrev pub single : ℕ → Heard
+single c = cond (eqb (c / 16) 4) (does Skip) (does (Second c))
+
+-- a code from 2/0 after the sequence so far; "SEP drops one code"
+abbrev pub followed : Sequence → ℕ → Heard
+followed Free c = does (Write c)
+followed Escape c = escaped c
+followed Long c = longer c
+followed Control c = controlled c
+followed Separator c = does Skip
+followed Repeat c = again c
+followed Single c = single c
+followed Address c = opens (Row c)
+followed (Row r) c = does (Go r c)
+
+-- "NUL is skipped everywhere. Any other C0 code inside a sequence ends it and is obeyed, except the code after SEP"
+abbrev pub heard : Sequence → ℕ → Heard
+heard q b =
+    cond (eqb b 0) (opens q)
+    (cond (ltb 31 b) (followed q b)
+    (cond (isSeparator q) (does Skip) (control b)))
