@@ -1,7 +1,7 @@
 -- The attributes in force, and the codes that change them (01, "Screen cells"). Assumes nothing.
-use mathlib.Core.Bool.{Bool, true, false, cond, _&&_}
-use Prim.Native.Nat.{ℕ, _-_}
-use lib.Dec.{ltb, leb, eqb}
+use mathlib.Core.Bool.{Bool, true, false, cond}
+use Prim.Native.Nat.{ℕ, _/_, _%_}
+use lib.Dec.{ltb, eqb}
 use Rattle.attributes.specs.declared.Waiting.{Waiting}
 use Rattle.attributes.specs.declared.Waiting.the-variants.{Nothing, Ground}
 use Rattle.attributes.specs.declared.Attributes.{Attributes}
@@ -37,13 +37,20 @@ withInverse a on = attributes (a .set) (a .ink) (a .ground) (a .waiting) (a .fla
 abbrev pub reversed : Attributes → Attributes
 reversed a = cond (eqb (a .set) 1) a (withInverse a true)
 
--- ESC and a code: "ESC 4/0 to 4/7: ink. ESC 5/0 to 5/7: ground; it waits"; "ESC 4/8 flash, 4/9 steady; 5/D inverse
--- (no action in G1), 5/C normal"; "Other ESC pairs ..: no action"
+-- "ESC 4/0 to 4/7: ink"; "ESC 4/8 flash, 4/9 steady"
+abbrev pub columnFour : Attributes → ℕ → Attributes
+columnFour a n =
+    cond (ltb n 8) (withInk a n)
+    (cond (eqb n 8) (withFlash a true)
+    (cond (eqb n 9) (withFlash a false) a))
+
+-- "ESC 5/0 to 5/7: ground; it waits"; "5/D inverse (no action in G1), 5/C normal"
+abbrev pub columnFive : Attributes → ℕ → Attributes
+columnFive a n =
+    cond (ltb n 8) (waitsFor a n)
+    (cond (eqb n 12) (withInverse a false)
+    (cond (eqb n 13) (reversed a) a))
+
+-- ESC and a code, by its column and row; "Other ESC pairs ..: no action"
 abbrev pub paired : Attributes → ℕ → Attributes
-paired a c =
-    cond (leb 64 c && leb c 71) (withInk a (c - 64))
-    (cond (leb 80 c && leb c 87) (waitsFor a (c - 80))
-    (cond (eqb c 72) (withFlash a true)
-    (cond (eqb c 73) (withFlash a false)
-    (cond (eqb c 92) (withInverse a false)
-    (cond (eqb c 93) (reversed a) a)))))
+paired a c = cond (eqb (c / 16) 4) (columnFour a (c % 16)) (cond (eqb (c / 16) 5) (columnFive a (c % 16)) a)

@@ -11,7 +11,7 @@ use Rattle.attributes.specs.declared.Cell.{Cell}
 -- ---- the tests
 
 -- a set and a code
-abbrev pub goodCharacter : ℕ → ℕ → Bool
+unfoldable pub goodCharacter : ℕ → ℕ → Bool
 goodCharacter s d = leb s 2 && leb 32 d && leb d 127
 
 abbrev pub goodWaiting : Waiting → Bool

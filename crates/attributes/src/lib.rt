@@ -5,7 +5,8 @@
 // what each function gives; proofs/Within shows that attributes in range stay so.
 ghost use mathlib.Core.Path.{_≡_};
 ghost use Rattle.attributes.specs.Attributing.{startOf, shiftedOut, shiftedIn, withInk, waitsFor};
-ghost use Rattle.attributes.specs.Attributing.{withFlash, withInverse, reversed, paired};
+ghost use Rattle.attributes.specs.Attributing.{withFlash, withInverse, reversed};
+ghost use Rattle.attributes.specs.Attributing.{columnFour, columnFive, paired};
 ghost use Rattle.attributes.specs.Written.{takes, taking, afterWriting, cellOf, blankOf};
 ghost use Rattle.attributes.specs.Within.{goodCharacter, goodWaiting, good, goodCell};
 
@@ -182,26 +183,41 @@ impl Attributes {
         }
     }
 
+    // ESC and a code of column 4.
+    fn column_four(self, row: u8) -> Attributes
+        ensures { λ r. ⌜ r ≡ columnFour self row ⌝ }
+    {
+        if row < 8 {
+            return self.with_ink(row);
+        }
+        match row {
+            8 => self.with_flash(true),
+            9 => self.with_flash(false),
+            _ => self,
+        }
+    }
+
+    // ESC and a code of column 5.
+    fn column_five(self, row: u8) -> Attributes
+        ensures { λ r. ⌜ r ≡ columnFive self row ⌝ }
+    {
+        if row < 8 {
+            return self.with_waiting(row);
+        }
+        match row {
+            12 => self.with_inverse(false),
+            13 => self.reverse(),
+            _ => self,
+        }
+    }
+
     // ESC and a code.
     pub fn pair(self, code: u8) -> Attributes
         ensures { λ r. ⌜ r ≡ paired self code ⌝ }
     {
-        if code < 64 {
-            return self;
-        }
-        if code < 72 {
-            return self.with_ink(code - 64);
-        }
-        if 79 < code {
-            if code < 88 {
-                return self.with_waiting(code - 80);
-            }
-        }
-        match code {
-            72 => self.with_flash(true),
-            73 => self.with_flash(false),
-            92 => self.with_inverse(false),
-            93 => self.reverse(),
+        match code / 16 {
+            4 => self.column_four(code % 16),
+            5 => self.column_five(code % 16),
             _ => self,
         }
     }

@@ -1,0 +1,22 @@
+use borrow.Author.Needs.{needs}
+use Rattle.attributes.proofs.Waiting.in_range.Statement.{statement}
+use Rattle.attributes.proofs.Waiting.in_range.Tie as tie
+
+-- src/lib.rt:100:33
+enum-told : tie.Need-enum-told
+enum-told c = search needs
+
+-- src/lib.rt:101:29
+enum-known-self : tie.Need-enum-known-self
+enum-known-self c = search needs
+
+-- src/lib.rt:96:5
+returns : tie.Need-returns
+returns c = search needs
+
+-- src/lib.rt:96:5
+returns-2 : tie.Need-returns-2
+returns-2 c = simp (c .before .self .given .1)
+
+pub in-range-spec : {M : Type 1} → statement M
+in-range-spec = tie.close (tie.spec enum-told enum-known-self returns returns-2)
