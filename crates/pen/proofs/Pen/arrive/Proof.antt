@@ -1,0 +1,35 @@
+use Rattle.pen.specs.Obeying.{gone}
+use borrow.Author.Needs.{needs}
+use Rattle.pen.proofs.Pen.arrive.Statement.{statement}
+use Rattle.pen.proofs.Pen.arrive.Tie as tie
+
+-- src/moves.rt:115:33
+enum-told : tie.Need-enum-told
+enum-told c = search needs
+
+-- src/moves.rt:116:28
+enum-known-address : tie.Need-enum-known-address
+enum-known-address c = search needs
+
+-- src/moves.rt:116:38
+enter-requires : tie.Need-enter-requires
+enter-requires c κs = search needs
+
+-- src/moves.rt:116:38
+start-at-requires : tie.Need-start-at-requires
+start-at-requires c κs = search needs
+
+-- src/moves.rt:111:5
+returns : tie.Need-returns
+unfolding gone
+returns c = simp (c .enum-told .given .1)
+
+-- src/moves.rt:111:5
+returns-2 : tie.Need-returns-2
+unfolding gone
+returns-2 c = simp (c .start-at .ensures, c .before .enter .ensures, c .before .before .before .address .given .1)
+
+pub arrive-spec : {M : Type 1} → statement M
+arrive-spec =
+    tie.close
+    (tie.spec enum-told enum-known-address enter-requires start-at-requires returns returns-2)

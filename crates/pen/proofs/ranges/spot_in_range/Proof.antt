@@ -1,0 +1,25 @@
+use Rattle.pen.specs.Pens.{goodSpot}
+use borrow.Author.Needs.{needs}
+use Rattle.pen.proofs.ranges.spot_in_range.Statement.{statement}
+use Rattle.pen.proofs.ranges.spot_in_range.Tie as tie
+
+-- src/ranges.rt:22:8
+on-screen-requires : tie.Need-on-screen-requires
+on-screen-requires c κs = search needs
+
+-- src/ranges.rt:23:9
+in-range-requires : tie.Need-in-range-requires
+in-range-requires c κs = search needs
+
+-- src/ranges.rt:19:1
+returns : tie.Need-returns
+unfolding goodSpot
+returns c = simp (c .in-range .ensures, c .before .if1 .taken, ← c .before .before .on-screen .ensures)
+
+-- src/ranges.rt:19:1
+returns-2 : tie.Need-returns-2
+unfolding goodSpot
+returns-2 c = simp (c .if1 .left, ← c .before .on-screen .ensures)
+
+pub spot-in-range-spec : {M : Type 1} → statement M
+spot-in-range-spec = tie.close (tie.spec on-screen-requires in-range-requires returns returns-2)

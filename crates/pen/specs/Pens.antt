@@ -1,0 +1,101 @@
+-- What a pen is: its start, its ranges (01, "Screen cells"). Assumes nothing.
+use mathlib.Core.Path.{_≡_}
+use mathlib.Core.Bool.{Bool, true, false, _&&_}
+use Prim.Native.Nat.{ℕ}
+use Rattle.cursor.specs.declared.Place.{Place}
+use Rattle.cursor.specs.Moves.{home, onScreen, On}
+use Rattle.attributes.specs.declared.Attributes.{Attributes}
+use Rattle.attributes.specs.Attributing.{startOf}
+use Rattle.attributes.specs.Within.{goodCharacter, good, Character, InForce}
+use Rattle.sequences.specs.declared.Sequence.{Sequence}
+use Rattle.sequences.specs.declared.Sequence.the-variants.{Free}
+use Rattle.sequences.specs.Hearing.{inRange as goodSequence}
+use Rattle.pen.specs.declared.Last.{Last}
+use Rattle.pen.specs.declared.Last.the-variants.{Never, Character as Was}
+use Rattle.pen.specs.declared.Pen.{Pen}
+
+-- "Current attributes at the start ..", "The cursor starts at row 1, column 1, hidden"; "if there was none, row 1,
+-- column 1 and start attributes"
+abbrev pub freshPen : Pen
+freshPen =
+    record {
+      place = home;
+      attributes = startOf;
+      kept = record { place = home; attributes = startOf };
+      last = Never;
+      sequence = Free;
+      shown = false;
+    }
+
+-- ---- a pen with one part changed
+
+abbrev pub withPlace : Pen → Place → Pen
+withPlace p x =
+    record {
+      place = x;
+      attributes = p .attributes;
+      kept = p .kept;
+      last = p .last;
+      sequence = p .sequence;
+      shown = p .shown;
+    }
+
+abbrev pub withAttributes : Pen → Attributes → Pen
+withAttributes p x =
+    record {
+      place = p .place;
+      attributes = x;
+      kept = p .kept;
+      last = p .last;
+      sequence = p .sequence;
+      shown = p .shown;
+    }
+
+abbrev pub withSequence : Pen → Sequence → Pen
+withSequence p x =
+    record {
+      place = p .place;
+      attributes = p .attributes;
+      kept = p .kept;
+      last = p .last;
+      sequence = x;
+      shown = p .shown;
+    }
+
+abbrev pub withShown : Pen → Bool → Pen
+withShown p x =
+    record {
+      place = p .place;
+      attributes = p .attributes;
+      kept = p .kept;
+      last = p .last;
+      sequence = p .sequence;
+      shown = x;
+    }
+
+-- ---- ranges
+
+abbrev pub goodLast : Last → Bool
+goodLast Never = true
+goodLast (Was s d) = goodCharacter s d
+
+unfoldable pub goodSpot : Place → Attributes → Bool
+goodSpot x a = onScreen x && good a
+
+-- "cursor and kept place on the screen; an unfinished sequence that the rules below leave open"
+unfoldable pub inRange : Pen → Bool
+inRange p =
+    goodSpot (p .place) (p .attributes)
+    && (goodSpot (p .kept .place) (p .kept .attributes) && (goodLast (p .last) && goodSequence (p .sequence)))
+
+abbrev pub InLast : Last → Type 0
+InLast Never = Unit {0}
+InLast (Was s d) = Character s d
+
+pub record InPen (p : Pen) : Type 0 where
+  pub place : On (p .place)
+  pub attributes : InForce (p .attributes)
+  pub keptPlace : On (p .kept .place)
+  pub keptAttributes : InForce (p .kept .attributes)
+  pub last : InLast (p .last)
+  pub sequence : goodSequence (p .sequence) ≡ true
