@@ -12,17 +12,17 @@ use Rattle.attributes.specs.declared.Cell.{Cell}
 
 -- a set and a code
 unfoldable pub goodCharacter : ℕ → ℕ → Bool
-goodCharacter s d = leb s 2 && leb 32 d && leb d 127
+goodCharacter s d = leb s 2 && (leb 32 d && leb d 127)
 
 abbrev pub goodWaiting : Waiting → Bool
 goodWaiting Nothing = true
 goodWaiting (Ground g) = leb g 7
 
 abbrev pub good : Attributes → Bool
-good a = leb (a .set) 1 && leb (a .ink) 7 && leb (a .ground) 7 && goodWaiting (a .waiting)
+good a = leb (a .set) 1 && (leb (a .ink) 7 && (leb (a .ground) 7 && goodWaiting (a .waiting)))
 
 abbrev pub goodCell : Cell → Bool
-goodCell c = leb (c .ink) 7 && leb (c .ground) 7 && goodCharacter (c .set) (c .code)
+goodCell c = leb (c .ink) 7 && (leb (c .ground) 7 && goodCharacter (c .set) (c .code))
 
 -- ---- the ranges
 

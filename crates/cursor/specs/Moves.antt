@@ -23,7 +23,7 @@ pub record On (p : Place) : Type 0 where
 
 -- the test of it
 abbrev pub onScreen : Place → Bool
-onScreen p = leb (p .row) 24 && leb 1 (p .column) && leb (p .column) 40
+onScreen p = leb (p .row) 24 && (leb 1 (p .column) && leb (p .column) 40)
 
 -- ---- moves by one
 
@@ -61,7 +61,7 @@ firstOf p = at (p .row) 1
 
 -- "row r minus 64 in 0 to 24, column c minus 64 in 1 to 40"
 abbrev pub good : ℕ → ℕ → Bool
-good r c = leb 64 r && leb r 88 && leb 65 c && leb c 104
+good r c = leb 64 r && (leb r 88 && (leb 65 c && leb c 104))
 
 -- "US r c: .. cursor there ..; else all three dropped"
 abbrev pub addressed : ℕ → ℕ → Address

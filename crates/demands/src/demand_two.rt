@@ -10,7 +10,8 @@ ghost use Rattle.division.specs.Polynomials.{polynomial, GeneratorDivides};
 ghost use Rattle.validity.specs.Block.{codeBits, remainder, Valid, Bytes};
 ghost use Rattle.validity.specs.Changed.{flip};
 ghost use Rattle.validity.specs.Units.{unit};
-ghost use Rattle.maker.specs.Making.{Values, useful, blockOf, valuesOf};
+ghost use Rattle.values.specs.Large.{Values};
+ghost use Rattle.maker.specs.Making.{useful, blockOf, valuesOf};
 ghost use Rattle.reader.specs.declared.Verdict.the-variants.{Clean};
 ghost use Rattle.reader.specs.Judging.{verdict, handed, mendable};
 

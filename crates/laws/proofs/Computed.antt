@@ -1,7 +1,8 @@
 -- A test computed at every number below a bound gives its fact at each of them: so a table's rule is proved once,
 -- over the whole table. With it stand the small laws of tests. Assumes nothing.
 use mathlib.Core.Path.{_≡_, refl, subst, subst⁻¹}
-use mathlib.Core.Bool.{Bool, true, false, _&&_}
+use mathlib.Core.Bool.{Bool, true, false, cond, _&&_}
+use mathlib.Core.List.{List, [], _∷_}
 use mathlib.Core.Logic.{_⊎_, inl, inr, ⊎-elim}
 use Prim.Native.Nat.{ℕ, zero, suc, _≤_, _<_}
 use native.Mathlib.Nat.{le-of-suc-le-suc, not-suc-le-zero, eq-or-lt-of-le}
@@ -32,6 +33,30 @@ holds e = subst⁻¹ T e tt
 
 pub fails : {t : Bool} → t ≡ false → T t → ⊥
 fails e v = subst T e v
+
+-- tests joined one after the other, and what each of them says
+abbrev pub every : List Bool → Bool
+every [] = true
+every (t ∷ []) = t
+every (t ∷ u ∷ ts) = t && every (u ∷ ts)
+
+abbrev pub Each : List Bool → Type 0
+Each [] = Unit {0}
+Each (t ∷ []) = t ≡ true
+Each (t ∷ u ∷ ts) = (t ≡ true) × Each (u ∷ ts)
+
+pub each : (ts : List Bool) → every ts ≡ true → Each ts
+each [] e = tt
+each (t ∷ []) e = e
+each (t ∷ u ∷ ts) e =
+    (is-true t (and-left t (every (u ∷ ts)) (holds e)),
+    each (u ∷ ts) (is-true (every (u ∷ ts)) (and-right t (every (u ∷ ts)) (holds e))))
+
+-- what is chosen by a test has a property that both choices have, each where the test chooses it
+pub chosen : {A : Type 0} (P : A → Type 0) (t : Bool) {a b : A} → (t ≡ true → P a) → (t ≡ false → P b)
+    → P (cond t a b)
+chosen P true f g = f refl
+chosen P false f g = g refl
 
 -- of two numbers one is less, or not
 pub apart : (a b : ℕ) → (a < b) ⊎ (b ≤ a)

@@ -3,7 +3,7 @@ ghost use mathlib.Core.Path.{_≡_};
 ghost use mathlib.Core.Bool.{false};
 ghost use mathlib.Core.List.{List};
 ghost use Rattle.numbers.specs.Numbers.{numberOf};
-ghost use Rattle.maker.specs.Making.{Values};
+ghost use Rattle.values.specs.Large.{Values};
 ghost use Rattle.receiver.specs.declared.Receiver.{Receiver};
 ghost use Rattle.receiver.specs.States.{inRange, InRange, callConditions, newReceiver};
 ghost use Rattle.receiver.specs.Calls.{refused};

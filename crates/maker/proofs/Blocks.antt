@@ -19,7 +19,8 @@ use Rattle.parity.proofs.Parities.{parity-even, parity-off, parity-back}
 use Rattle.validity.specs.Block.{remainder, Valid, Bytes}
 use Rattle.validity.proofs.Powers.{remainder-by-check}
 use Rattle.validity.proofs.Validity.{valid-length, valid-even, valid-remainder, valid-last, is-valid}
-use Rattle.maker.specs.Making.{Values, useful, sealed, blockOf, valuesOf}
+use Rattle.values.specs.Large.{Values}
+use Rattle.maker.specs.Making.{useful, sealed, blockOf, valuesOf}
 
 -- ---- even bytes
 

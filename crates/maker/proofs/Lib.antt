@@ -1,4 +1,3 @@
 pub mod Blocks
 pub mod Written
-pub mod Large
 pub mod Numbered

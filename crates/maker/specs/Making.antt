@@ -8,12 +8,9 @@ use lib.ListN.{length, getD, take, drop, replicate}
 use Rattle.numbers.specs.Numbers.{Conditions, numberOf, Told}
 use Rattle.division.specs.Division.{checkBits}
 use Rattle.parity.specs.Parity.{withParity}
+use Rattle.values.specs.Large.{firstLarge}
 use Rattle.maker.specs.declared.Made.{Made}
 use Rattle.maker.specs.declared.Made.the-variants.{Taken, WrongLength, TooLarge, NoRoom}
-
--- each value is 0 to 127
-abbrev pub Values : List ℕ → Type 0
-Values vs = (i : ℕ) → i < length vs → getD vs i 0 < 128
 
 -- "The maker takes 1 to 15 values .., fills up with NUL, and adds parity": the fifteen useful bytes
 unfoldable pub useful : List ℕ → List ℕ
@@ -31,11 +28,6 @@ blockOf vs = sealed (useful vs)
 -- the fifteen values of a block: its useful bytes without parity
 abbrev pub valuesOf : List ℕ → List ℕ
 valuesOf B = map (λ (b : ℕ). b % 128) (take 15 B)
-
--- the lowest place of a value above 127, or the number of values
-unfoldable pub firstLarge : List ℕ → ℕ
-firstLarge [] = 0
-firstLarge (v ∷ vs) = cond (ltb v 128) (suc (firstLarge vs)) 0
 
 -- "maker input 0 or above 15", "a value .. above 127", "maker's output shorter than 17"
 abbrev pub makeConditions : List ℕ → List ℕ → Conditions

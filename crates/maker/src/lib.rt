@@ -7,7 +7,7 @@ ghost use Prim.Native.Nat.{_≤_};
 ghost use mathlib.Core.Path.{_≡_};
 ghost use mathlib.Core.List.{_++_};
 ghost use lib.ListN.{length, getD, take, drop};
-ghost use Rattle.maker.specs.Making.{useful, sealed, firstLarge, told, makeTold, makeLeft};
+ghost use Rattle.maker.specs.Making.{useful, sealed, told, makeTold, makeLeft};
 
 pub enum Made {
     Taken,
@@ -50,22 +50,6 @@ fn seal(out: &mut [u8])
     out[16] = 0;
 }
 
-// The lowest place of a value above 127, or the number of values. `left` counts those not looked at yet.
-fn first_large(values: &[u8]) -> usize
-    ensures { λ r. ⌜ r ≡ firstLarge (now (values .entry)) ⌝ }
-{
-    let n = values.len();
-    let mut left = n;
-    while 0 < left {
-        let at = n - left;
-        if 127 < values[at] {
-            return at;
-        }
-        left -= 1;
-    }
-    n
-}
-
 // The block of 1 to 15 values of 0 to 127, in the first seventeen bytes of the output and no others; or why there
 // is none.
 pub fn make(values: &[u8], out: &mut [u8]) -> Made
@@ -79,7 +63,7 @@ pub fn make(values: &[u8], out: &mut [u8]) -> Made
     if 15 < n {
         return Made::WrongLength;
     }
-    let at = first_large(values);
+    let at = values::first_large(values);
     if at < n {
         return Made::TooLarge(at);
     }

@@ -11,7 +11,8 @@ use Rattle.validity.specs.Changed.{flip, Near, same, changed}
 use Rattle.validity.specs.Block.{Valid}
 use Rattle.validity.proofs.Flips.{flip-length}
 use Rattle.validity.proofs.Validity.{valid-length}
-use Rattle.maker.specs.Making.{Values, blockOf, valuesOf}
+use Rattle.values.specs.Large.{Values}
+use Rattle.maker.specs.Making.{blockOf, valuesOf}
 use Rattle.maker.proofs.Blocks.{made-valid, values-back}
 use Rattle.reader.specs.Judging.{mendable}
 use Rattle.reader.proofs.Verdicts.{near-only, asked-when-none, twice-refused}

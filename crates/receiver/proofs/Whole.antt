@@ -10,7 +10,8 @@ use lib.Seq.{length-take-le, take-at, drop-at, split-at, drop-cons}
 use Rattle.laws.proofs.Lists.{nil-cons}
 use Rattle.validity.specs.Changed.{flip, same}
 use Rattle.validity.specs.Block.{Valid}
-use Rattle.maker.specs.Making.{Values, blockOf}
+use Rattle.values.specs.Large.{Values}
+use Rattle.maker.specs.Making.{blockOf}
 use Rattle.maker.proofs.Blocks.{made-valid}
 use Rattle.codes.specs.Codes.{syn, four, request, Nowhere}
 use Rattle.receiver.specs.declared.Phase.the-variants.{Collecting, Waiting}

@@ -52,14 +52,16 @@ among b [] d = d
 among b (e ∷ es) d = cond (eqb b (e .0)) (e .1) (among b es d)
 
 -- the codes obeyed: BS HT LF VT FF CR SO SI (0/8 to 0/F), CON REP SEP COFF (1/1 to 1/4), SS2 (1/9), ESC (1/B),
--- RS US (1/E, 1/F); "other C0 codes: no action"
-abbrev pub control : ℕ → Heard
-control b =
-    among b
-    ((8, does Left) ∷ (9, does Right) ∷ (10, does Down) ∷ (11, does Up) ∷ (12, does Clear) ∷ (13, does First)
+-- RS US (1/E, 1/F)
+abbrev pub controls : List (ℕ × Heard)
+controls =
+    (8, does Left) ∷ (9, does Right) ∷ (10, does Down) ∷ (11, does Up) ∷ (12, does Clear) ∷ (13, does First)
     ∷ (14, does ShiftOut) ∷ (15, does ShiftIn) ∷ (17, does Show) ∷ (18, opens Repeat) ∷ (19, opens Separator)
-    ∷ (20, does Hide) ∷ (25, opens Single) ∷ (27, opens Escape) ∷ (30, does Home) ∷ (31, opens Address) ∷ [])
-    (does Skip)
+    ∷ (20, does Hide) ∷ (25, opens Single) ∷ (27, opens Escape) ∷ (30, does Home) ∷ (31, opens Address) ∷ []
+
+-- "other C0 codes: no action"
+abbrev pub control : ℕ → Heard
+control b = among b controls (does Skip)
 
 -- ---- codes from 2/0
 

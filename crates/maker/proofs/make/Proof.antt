@@ -5,7 +5,8 @@ use Prim.Native.Nat.{ℕ, _≤_, _<_}
 use native.Mathlib.Omega.{arith}
 use lib.ListN.{length}
 use borrow.Author.Needs.{needs}
-use Rattle.maker.specs.Making.{firstLarge, makeNumber}
+use Rattle.values.specs.Large.{firstLarge}
+use Rattle.maker.specs.Making.{makeNumber}
 use Rattle.maker.proofs.Numbered.{none, many, large, short, room, refused, written, names-none}
 use Rattle.maker.proofs.Numbered.{names-place}
 use Rattle.maker.proofs.Written.{both-written}

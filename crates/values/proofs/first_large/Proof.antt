@@ -1,14 +1,14 @@
--- `maker::first_large` meets its contract: the values passed are small, so the answer is that of those left.
+-- `values::first_large` meets its contract: the values passed are small, so the answer is that of those left.
 -- Assumes nothing.
 use mathlib.Core.Path.{_≡_, sym, ap, _∙_}
 use mathlib.Core.List.{List}
 use Prim.Native.Nat.{ℕ, _+_, _-_, _≤_}
 use native.Mathlib.Omega.{arith}
 use lib.ListN.{length, drop}
-use Rattle.maker.specs.Making.{firstLarge}
-use Rattle.maker.proofs.Large.{large-more, large-here, large-end}
-use Rattle.maker.proofs.first_large.Statement.{statement}
-use Rattle.maker.proofs.first_large.Tie as tie
+use Rattle.values.specs.Large.{firstLarge}
+use Rattle.values.proofs.Found.{large-more, large-here, large-end}
+use Rattle.values.proofs.first_large.Statement.{statement}
+use Rattle.values.proofs.first_large.Tie as tie
 
 -- the place found among the values from place i on
 abbrev from : List ℕ → ℕ → ℕ

@@ -1,0 +1,55 @@
+-- Laws of the first value that is too large. Assumes nothing.
+use mathlib.Core.Path.{_≡_, refl, sym, ap, _∙_}
+use mathlib.Core.Bool.{Bool, true, false, cond}
+use mathlib.Core.List.{List, [], _∷_}
+use Prim.Native.Nat.{ℕ, zero, suc, _+_, _≤_, _<_}
+use native.Mathlib.Nat.{add-suc, suc-add, add-zero, zero-lt-suc, le-of-suc-le-suc, not-suc-le-zero}
+use native.Mathlib.Numerals.{add-one}
+use native.Mathlib.Omega.{arith}
+use lib.Dec.{ltb}
+use lib.ListN.{length, getD, drop, drop-of-length-le}
+use lib.Seq.{drop-cons}
+use borrow.Author.Tests.{ltb-true, lt-ltb, le-ltb}
+use Rattle.values.specs.Large.{Values, firstLarge}
+
+-- one value passed
+pub large-more : (vs : List ℕ) (i : ℕ) → i < length vs → getD vs i 0 < 128
+    → i + firstLarge (drop i vs) ≡ (i + 1) + firstLarge (drop (i + 1) vs)
+unfolding firstLarge
+large-more vs i h l =
+    ap (λ (x : List ℕ). i + firstLarge x) (drop-cons vs i 0 h)
+    ∙ ap (λ (t : Bool). i + cond t (suc (firstLarge (drop (suc i) vs))) 0) (lt-ltb (getD vs i 0) 128 l)
+    ∙ add-suc i (firstLarge (drop (suc i) vs)) ∙ sym (suc-add i (firstLarge (drop (suc i) vs)))
+    ∙ ap (λ (n : ℕ). n + firstLarge (drop n vs)) (sym (add-one i))
+
+-- one that is too large
+pub large-here : (vs : List ℕ) (i : ℕ) → i < length vs → 128 ≤ getD vs i 0 → i + firstLarge (drop i vs) ≡ i
+unfolding firstLarge
+large-here vs i h l =
+    ap (λ (x : List ℕ). i + firstLarge x) (drop-cons vs i 0 h)
+    ∙ ap (λ (t : Bool). i + cond t (suc (firstLarge (drop (suc i) vs))) 0) (le-ltb (getD vs i 0) 128 l) ∙ add-zero i
+
+-- none left
+pub large-end : (vs : List ℕ) (i : ℕ) → length vs ≤ i → i + firstLarge (drop i vs) ≡ i
+unfolding firstLarge
+large-end vs i h = ap (λ (x : List ℕ). i + firstLarge x) (drop-of-length-le vs {i = i} h) ∙ add-zero i
+
+-- ---- none is too large exactly when every value is 0 to 127
+
+next : (t : Bool) (m n : ℕ) → suc m ≤ cond t (suc n) 0 → (t ≡ true) × (m ≤ n)
+next true m n h = (refl, le-of-suc-le-suc h)
+next false m n h = absurd (not-suc-le-zero h)
+
+pub all-small : (vs : List ℕ) → length vs ≤ firstLarge vs → Values vs
+unfolding firstLarge
+all-small [] h i l = absurd (not-suc-le-zero l)
+all-small (v ∷ vs) h zero l = ltb-true v 128 (next (ltb v 128) (length vs) (firstLarge vs) h .0)
+all-small (v ∷ vs) h (suc i) l =
+    all-small vs (next (ltb v 128) (length vs) (firstLarge vs) h .1) i (le-of-suc-le-suc l)
+
+pub none-large : (vs : List ℕ) → Values vs → firstLarge vs ≡ length vs
+unfolding firstLarge
+none-large [] h = refl
+none-large (v ∷ vs) h =
+    ap (λ (t : Bool). cond t (suc (firstLarge vs)) 0) (lt-ltb v 128 (h 0 (zero-lt-suc (length vs))))
+    ∙ ap suc (none-large vs (λ i l. h (suc i) (omega (arith, l))))
