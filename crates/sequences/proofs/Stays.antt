@@ -1,52 +1,82 @@
--- A sequence that is left open by a value of 0 to 127 is in range. Assumes nothing.
+-- What a value of 0 to 127 leaves open is in range, and so is what it orders. Assumes nothing.
 use mathlib.Core.Path.{_≡_, refl}
-use mathlib.Core.Bool.{Bool, true, _&&_}
+use mathlib.Core.Bool.{true, _&&_}
 use mathlib.Core.List.{List, [], _∷_}
 use Prim.Native.Nat.{ℕ, _/_, _≤_}
 use native.Mathlib.Omega.{arith}
-use lib.Dec.{T, ltb, leb, eqb}
+use lib.Dec.{ltb, leb, eqb}
 use borrow.Author.Tests.{ltb-true, le-leb}
-use Rattle.laws.proofs.Computed.{and-left, and-right, is-true, chosen}
+use Rattle.laws.proofs.Computed.{chosen}
 use Rattle.sequences.specs.declared.Sequence.{Sequence}
 use Rattle.sequences.specs.declared.Sequence.the-variants.{Free, Escape, Long, Control, Separator, Repeat}
 use Rattle.sequences.specs.declared.Sequence.the-variants.{Single, Address, Row}
-use Rattle.sequences.specs.declared.Order.the-variants.{Skip}
+use Rattle.sequences.specs.declared.Order.{Order}
+use Rattle.sequences.specs.declared.Order.the-variants.{Skip, Left, Right, Up, Down, First, Clear, Home}
+use Rattle.sequences.specs.declared.Order.the-variants.{ShiftOut, ShiftIn, Show, Hide, Pair, Go, Write}
+use Rattle.sequences.specs.declared.Order.the-variants.{Second, Again}
 use Rattle.sequences.specs.declared.Heard.{Heard}
 use Rattle.sequences.specs.Hearing.{inRange, does, isSeparator, among, controls, control}
 use Rattle.sequences.specs.Hearing.{followed, heard}
 
--- what is left open is in range
-abbrev Left : Heard → Type 0
-Left h = inRange (h .sequence) ≡ true
+-- ---- what a value leaves
 
-follow-in : (q : Sequence) (c : ℕ) → 32 ≤ c → c ≤ 127 → Left (followed q c)
-follow-in Free c l h = refl
-follow-in Escape c l h = chosen Left (ltb c 48) (λ e. refl) (λ e. chosen Left (eqb c 91) (λ f. refl) (λ f. refl))
-follow-in Long c l h = chosen Left (leb 48 c && leb c 126) (λ e. refl) (λ e. refl)
-follow-in Control c l h = chosen Left (leb 64 c && leb c 126) (λ e. refl) (λ e. refl)
-follow-in Separator c l h = refl
-follow-in Repeat c l h = chosen Left (ltb c 64) (λ e. refl) (λ e. refl)
-follow-in Single c l h = chosen Left (eqb (c / 16) 4) (λ e. refl) (λ e. refl)
-follow-in Address c l h = simp (le-leb 32 c l, le-leb c 127 h)
-follow-in (Row r) c l h = refl
+-- the code that an order writes is 2/0 to 7/F
+abbrev pub InOrder : Order → Type 0
+InOrder Skip = Unit {0}
+InOrder Left = Unit {0}
+InOrder Right = Unit {0}
+InOrder Up = Unit {0}
+InOrder Down = Unit {0}
+InOrder First = Unit {0}
+InOrder Clear = Unit {0}
+InOrder Home = Unit {0}
+InOrder ShiftOut = Unit {0}
+InOrder ShiftIn = Unit {0}
+InOrder Show = Unit {0}
+InOrder Hide = Unit {0}
+InOrder (Pair c) = Unit {0}
+InOrder (Go r c) = Unit {0}
+InOrder (Write c) = (32 ≤ c) × (c ≤ 127)
+InOrder (Second c) = (32 ≤ c) × (c ≤ 127)
+InOrder (Again n) = Unit {0}
 
--- so does each entry of a table
-abbrev allLeft : List (ℕ × Heard) → Bool
-allLeft [] = true
-allLeft (e ∷ es) = inRange (e .1 .sequence) && allLeft es
+-- what is left open is in range, and so is what is ordered
+abbrev pub Fine : Heard → Type 0
+Fine h = (inRange (h .sequence) ≡ true) × InOrder (h .order)
 
-among-in : (b : ℕ) (es : List (ℕ × Heard)) (d : Heard) → T (allLeft es) → Left d → Left (among b es d)
-among-in b [] d a k = k
-among-in b (e ∷ es) d a k =
-    chosen Left (eqb b (e .0))
-    (λ f. is-true (inRange (e .1 .sequence)) (and-left (inRange (e .1 .sequence)) (allLeft es) a))
-    (λ f. among-in b es d (and-right (inRange (e .1 .sequence)) (allLeft es) a) k)
+follow-in : (q : Sequence) (c : ℕ) → 32 ≤ c → c ≤ 127 → Fine (followed q c)
+follow-in Free c l h = (refl, (l, h))
+follow-in Escape c l h =
+    chosen Fine (ltb c 48) (λ e. (refl, tt)) (λ e. chosen Fine (eqb c 91) (λ f. (refl, tt)) (λ f. (refl, tt)))
+follow-in Long c l h = chosen Fine (leb 48 c && leb c 126) (λ e. (refl, tt)) (λ e. (refl, tt))
+follow-in Control c l h = chosen Fine (leb 64 c && leb c 126) (λ e. (refl, tt)) (λ e. (refl, tt))
+follow-in Separator c l h = (refl, tt)
+follow-in Repeat c l h = chosen Fine (ltb c 64) (λ e. (refl, tt)) (λ e. (refl, tt))
+follow-in Single c l h = chosen Fine (eqb (c / 16) 4) (λ e. (refl, tt)) (λ e. (refl, (l, h)))
+follow-in Address c l h = (simp (le-leb 32 c l, le-leb c 127 h), tt)
+follow-in (Row r) c l h = (refl, tt)
 
-control-in : (b : ℕ) → Left (control b)
-control-in b = among-in b controls (does Skip) tt refl
+-- a property of every entry of a table is one of whatever is looked up in it
+data Throughout (P : Heard → Type 0) : List (ℕ × Heard) → Type 0 where
+  none : Throughout P []
+  also : {k : ℕ} {h : Heard} {es : List (ℕ × Heard)} → P h → Throughout P es → Throughout P ((k, h) ∷ es)
 
-pub heard-in : (q : Sequence) (b : ℕ) → inRange q ≡ true → b ≤ 127 → inRange (heard q b .sequence) ≡ true
+among-in : (P : Heard → Type 0) (b : ℕ) {es : List (ℕ × Heard)} (d : Heard) → Throughout P es → P d → P (among b es d)
+among-in P b d none k = k
+among-in P b d (also {k = n} a t) k = chosen P (eqb b n) (λ f. a) (λ f. among-in P b d t k)
+
+control-in : (b : ℕ) → Fine (control b)
+control-in b = among-in Fine b (does Skip) entries (refl, tt)
+  where
+    entries : Throughout Fine controls
+    entries =
+                also (refl, tt) (also (refl, tt) (also (refl, tt) (also (refl, tt)
+        (also (refl, tt) (also (refl, tt) (also (refl, tt) (also (refl, tt)
+        (also (refl, tt) (also (refl, tt) (also (refl, tt) (also (refl, tt)
+        (also (refl, tt) (also (refl, tt) (also (refl, tt) (also (refl, tt) none)))))))))))))))
+
+pub heard-in : (q : Sequence) (b : ℕ) → inRange q ≡ true → b ≤ 127 → Fine (heard q b)
 heard-in q b r h =
-    chosen Left (eqb b 0) (λ e. r)
-    (λ e. chosen Left (ltb 31 b) (λ f. follow-in q b (ltb-true 31 b f) h)
-    (λ f. chosen Left (isSeparator q) (λ g. refl) (λ g. control-in b)))
+    chosen Fine (eqb b 0) (λ e. (r, tt))
+    (λ e. chosen Fine (ltb 31 b) (λ f. follow-in q b (ltb-true 31 b f) h)
+    (λ f. chosen Fine (isSeparator q) (λ g. (refl, tt)) (λ g. control-in b)))
