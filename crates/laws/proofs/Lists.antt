@@ -1,12 +1,13 @@
--- Lists taken apart: a store that copies one more place, the last element, and the beginnings of a list. Assumes
--- nothing.
+-- Lists taken apart: a store that copies one more place, what stands at a place, the last element, and the beginnings
+-- of a list. Assumes nothing.
 use mathlib.Core.Path.{_≡_, refl, sym, ap, ap₂, _∙_, subst⁻¹}
-use mathlib.Core.List.{List, [], _∷_, _++_, head-eq-of-cons-eq, tail-eq-of-cons-eq}
+use mathlib.Core.List.{List, [], _∷_, _++_, map, head-eq-of-cons-eq, tail-eq-of-cons-eq}
 use mathlib.Core.Logic.{_⊎_, inl, inr}
-use Prim.Native.Nat.{ℕ, suc, _+_, _<_}
+use Prim.Native.Nat.{ℕ, zero, suc, _+_, _<_}
+use native.Mathlib.Nat.{le-of-suc-le-suc, not-suc-le-zero}
 use native.Mathlib.Numerals.{add-one}
 use native.Mathlib.Omega.{arith}
-use lib.ListN.{length, getD, take, drop, set}
+use lib.ListN.{length, getD, take, drop, set, length-map}
 use lib.Seq.{take-suc, drop-cons, set-at, length-take-le, append-snoc}
 
 module _ {A : Type 0} where
@@ -19,6 +20,12 @@ module _ {A : Type 0} where
       ∙ sym (append-snoc (take i U) (getD U i z) (drop (suc i) O))
       ∙ ap (λ (l : List A). l ++ drop (suc i) O) (sym (take-suc U i z h))
       ∙ ap (λ (n : ℕ). take n U ++ drop n O) (sym (add-one i))
+
+  -- an element that a list has is the same whatever would be read past its end
+  pub getD-any : (l : List A) (i : ℕ) (a b : A) → i < length l → getD l i a ≡ getD l i b
+  getD-any [] i a b h = absurd (not-suc-le-zero h)
+  getD-any (x ∷ xs) zero a b h = refl
+  getD-any (x ∷ xs) (suc i) a b h = getD-any xs i a b (le-of-suc-le-suc h)
 
   -- ---- the last element
 
@@ -58,3 +65,7 @@ module _ {A : Type 0} where
       go : (us ≡ []) ⊎ ((ts : List A) × (ws ≡ vs ++ ts)) → (us ≡ []) ⊎ ((ts : List A) × (w ∷ ws ≡ v ∷ (vs ++ ts)))
       go (inl z) = inl z
       go (inr p) = inr (p .0, ap₂ (λ (x : A) (l : List A). x ∷ l) (head-eq-of-cons-eq e) (p .1))
+
+-- what owning a struct tells of a field that is an array of structs is said of the list of the elements' own values
+pub length-mapped : (X Y : Type 0) (f : X → Y) (l : List X) (n : ℕ) → length (map f l) ≡ n → length l ≡ n
+length-mapped X Y f l n e = sym (length-map l f) ∙ e

@@ -25,6 +25,17 @@ inRange Single = true
 inRange Address = true
 inRange (Row r) = leb 32 r && leb r 127
 
+abbrev pub isFree : Sequence → Bool
+isFree Free = true
+isFree Escape = false
+isFree Long = false
+isFree Control = false
+isFree Separator = false
+isFree Repeat = false
+isFree Single = false
+isFree Address = false
+isFree (Row r) = false
+
 -- the sequence ends, with this order
 abbrev pub does : Order → Heard
 does o = record { sequence = Free; order = o }

@@ -4,8 +4,8 @@
 // `hear` takes an unfinished sequence and one value, and says what is unfinished then and what is ordered. It knows no
 // cursor, no attribute and no cell. specs/Hearing says the same, rule by rule.
 ghost use mathlib.Core.Path.{_≡_};
-ghost use Rattle.sequences.specs.Hearing.{inRange, does, opens, isSeparator, control, escaped, longer};
-ghost use Rattle.sequences.specs.Hearing.{controlled, again, single, followed, heard};
+ghost use Rattle.sequences.specs.Hearing.{inRange, isFree, isSeparator, does, opens, control, escaped};
+ghost use Rattle.sequences.specs.Hearing.{longer, controlled, again, single, followed, heard};
 
 // An unfinished sequence.
 pub enum Sequence {
@@ -86,6 +86,23 @@ impl Sequence {
                 }
                 true
             }
+        }
+    }
+
+    // Whether nothing is unfinished.
+    pub fn is_free(self) -> bool
+        ensures { λ r. ⌜ r ≡ isFree self ⌝ }
+    {
+        match self {
+            Sequence::Free => true,
+            Sequence::Escape => false,
+            Sequence::Long => false,
+            Sequence::Control => false,
+            Sequence::Separator => false,
+            Sequence::Repeat => false,
+            Sequence::Single => false,
+            Sequence::Address => false,
+            Sequence::Row(_) => false,
         }
     }
 

@@ -1,0 +1,28 @@
+-- A plan for a pen in range, and for a character. Assumes nothing.
+use mathlib.Core.Path.{_≡_, refl, sym, ap, _∙_}
+use mathlib.Core.Bool.{true}
+use Prim.Native.Nat.{ℕ, _≤_, _<_}
+use borrow.Author.Tests.{le-ltb}
+use Rattle.sequences.specs.declared.Sequence.{Sequence}
+use Rattle.sequences.specs.declared.Sequence.the-variants.{Free}
+use Rattle.sequences.specs.declared.Heard.{Heard}
+use Rattle.sequences.specs.Hearing.{isFree, heard}
+use Rattle.sequences.proofs.Text.{free, heard-text}
+use Rattle.pen.specs.declared.Pen.{Pen}
+use Rattle.pen.specs.declared.Plan.{Plan}
+use Rattle.pen.specs.Pens.{withSequence, inRange}
+use Rattle.pen.specs.Obeying.{puts, obeyed}
+use Rattle.pen.specs.Planning.{planned, plan}
+
+-- a value of 0 to 127 for a pen in range is planned
+pub plan-tested : (p : Pen) (b : ℕ) → inRange p ≡ true → b ≤ 127 → plan p b ≡ planned p b
+plan-tested p b e h = simp (le-ltb 127 b h, e)
+
+-- with nothing unfinished, a code from 2/0 is written in the current set, and the pen stays
+pub plan-text : (p : Pen) (b : ℕ) → isFree (p .sequence) ≡ true → 31 < b → planned p b ≡ puts p (p .attributes .set) b 1
+unfolding obeyed
+plan-text p b e h =
+    let f : p .sequence ≡ Free = free (p .sequence) e in
+    ap (λ (q : Sequence). obeyed (withSequence p (heard q b .sequence)) (heard q b .order)) f
+    ∙ ap (λ (k : Heard). obeyed (withSequence p (k .sequence)) (k .order)) (heard-text b h)
+    ∙ ap (λ (q : Sequence). puts (withSequence p q) (p .attributes .set) b 1) (sym f)

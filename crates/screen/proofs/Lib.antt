@@ -1,0 +1,4 @@
+pub mod Stays
+pub mod Steps
+pub mod Beside
+pub mod Answers

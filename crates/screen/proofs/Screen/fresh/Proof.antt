@@ -1,0 +1,26 @@
+-- `screen::Screen::fresh` meets its contract. Assumes nothing.
+use mathlib.Core.Path.{ap₂}
+use lib.ListN.{replicate}
+use borrow.Author.Needs.{needs}
+use Rattle.attributes.specs.declared.Cell.{Cell}
+use Rattle.pen.specs.declared.Pen.{Pen}
+use Rattle.screen.specs.declared.Screen.{Screen}
+use Rattle.screen.specs.Screens.{freshScreen}
+use Rattle.screen.proofs.Screen.fresh.Statement.{statement}
+use Rattle.screen.proofs.Screen.fresh.Tie as tie
+
+blank-requires : tie.Need-blank-requires
+blank-requires c κs = search needs
+
+fresh-requires : tie.Need-fresh-requires
+fresh-requires c κs = search needs
+
+abbrev filled : Cell → Pen → Screen
+filled b p = record { cells = replicate 1000 b; pen = p }
+
+returns : tie.Need-returns
+unfolding freshScreen
+returns c = ap₂ filled (c .before .blank .ensures) (c .fresh .ensures)
+
+pub fresh-spec : {M : Type 1} → statement M
+fresh-spec = tie.close (tie.spec blank-requires fresh-requires returns)

@@ -1,0 +1,111 @@
+-- What the range test of a screen says; every step leaves a screen in range. Assumes nothing.
+use mathlib.Core.Path.{_≡_, refl, _∙_}
+use mathlib.Core.Bool.{true}
+use mathlib.Core.List.{List, [], _∷_, _++_}
+use Prim.Native.Nat.{ℕ, zero, suc, _+_, _*_, _-_, _≤_, _<_}
+use native.Mathlib.Omega.{arith}
+use lib.ListN.{length, take, set, replicate, length-set, length-append, length-take, length-replicate}
+use Rattle.laws.proofs.Computed.{each}
+use Rattle.cursor.specs.declared.Place.{Place}
+use Rattle.cursor.specs.Moves.{On}
+use Rattle.attributes.specs.declared.Cell.{Cell}
+use Rattle.attributes.specs.Written.{blankOf}
+use Rattle.attributes.specs.Within.{goodCell, Character, InCell}
+use Rattle.attributes.proofs.Stays.{cell-true, true-cell, blank-in}
+use Rattle.pen.specs.declared.Pen.{Pen}
+use Rattle.pen.specs.declared.Asked.{Asked}
+use Rattle.pen.specs.declared.Asked.the-variants.{Nothing, Blank, Put}
+use Rattle.pen.specs.Pens.{inRange as penInRange, InPen}
+use Rattle.pen.specs.Planning.{planned}
+use Rattle.pen.proofs.Stays.{pen-true, true-pen, fresh-in, InAsked, planned-in, after-in, stroke-cell}
+use Rattle.screen.specs.declared.Screen.{Screen}
+use Rattle.screen.specs.Screens.{freshScreen, indexOf, cleared, written, writtenTimes, applied, advanced}
+use Rattle.screen.specs.Ranges.{allGood, inRange, AllIn, none, also, InScreen}
+
+-- a place on the screen has its cell among the thousand
+pub index-low : {x : Place} → On x → indexOf x < 1000
+index-low h = omega (arith, h .row, h .low, h .high)
+
+-- ---- the test is the ranges
+
+all-true : {cs : List Cell} → AllIn cs → allGood cs ≡ true
+unfolding allGood
+all-true none = refl
+all-true (also h k) = simp (cell-true h, all-true k)
+
+true-all : (cs : List Cell) → allGood cs ≡ true → AllIn cs
+unfolding allGood
+true-all [] e = none
+true-all (c ∷ cs) e = let t = each (goodCell c ∷ allGood cs ∷ []) e in also (true-cell c (t .0)) (true-all cs (t .1))
+
+pub screen-true : {s : Screen} → InScreen s → inRange s ≡ true
+unfolding inRange
+screen-true {s} h = simp (pen-true (s .pen) (h .pen), all-true (h .cells))
+
+pub true-screen : (s : Screen) → length (s .cells) ≡ 1000 → inRange s ≡ true → InScreen s
+unfolding inRange
+true-screen s n e =
+    let t = each (penInRange (s .pen) ∷ allGood (s .cells) ∷ []) e in
+    record { pen = true-pen (s .pen) (t .0); cells = true-all (s .cells) (t .1); thousand = n }
+
+-- the pen alone
+pub true-pen-in : (s : Screen) → inRange s ≡ true → InPen (s .pen)
+unfolding inRange
+true-pen-in s e = true-pen (s .pen) (each (penInRange (s .pen) ∷ allGood (s .cells) ∷ []) e .0)
+
+-- ---- cells
+
+all-set : {cs : List Cell} (i : ℕ) {c : Cell} → InCell c → AllIn cs → AllIn (set cs i c)
+all-set i k none = none
+all-set zero k (also h t) = also k t
+all-set (suc i) k (also h t) = also h (all-set i k t)
+
+all-take : (n : ℕ) {cs : List Cell} → AllIn cs → AllIn (take n cs)
+all-take zero h = none
+all-take (suc n) none = none
+all-take (suc n) (also h t) = also h (all-take n t)
+
+all-append : {cs ds : List Cell} → AllIn cs → AllIn ds → AllIn (cs ++ ds)
+all-append none k = k
+all-append (also h t) k = also h (all-append t k)
+
+all-replicate : (n : ℕ) {c : Cell} → InCell c → AllIn (replicate n c)
+all-replicate zero k = none
+all-replicate (suc n) k = also k (all-replicate n k)
+
+-- ---- what stays in range
+
+pub fresh-in-range : InScreen freshScreen
+unfolding freshScreen
+fresh-in-range = record { pen = fresh-in; cells = all-replicate 1000 blank-in; thousand = length-replicate 1000 blankOf }
+
+pub written-in : {s : Screen} (a d : ℕ) → Character a d → InScreen s → InScreen (written s a d)
+unfolding written
+written-in {s} a d k h =
+    record {
+      pen = after-in a d k (h .pen);
+      cells = all-set (indexOf (s .pen .place)) (stroke-cell a d k (h .pen)) (h .cells);
+      thousand = length-set (s .cells) (indexOf (s .pen .place)) _ ∙ h .thousand;
+    }
+
+times-in : {s : Screen} (a d n : ℕ) → Character a d → InScreen s → InScreen (writtenTimes s a d n)
+unfolding writtenTimes
+times-in a d zero k h = h
+times-in a d (suc n) k h = written-in a d k (times-in a d n k h)
+
+pub applied-in : {s : Screen} {p : Pen} (o : Asked) → InAsked o → InPen p → InScreen s → InScreen (applied s p o)
+unfolding applied cleared
+applied-in Nothing k j h = record { pen = j; cells = h .cells; thousand = h .thousand }
+applied-in {s} Blank k j h =
+    record {
+      pen = j;
+      cells = all-append (all-take 40 (h .cells)) (all-replicate 960 blank-in);
+      thousand = simp (length-append, length-take, length-replicate, h .thousand);
+    }
+applied-in (Put a d n) k j h = times-in a d n k (record { pen = j; cells = h .cells; thousand = h .thousand })
+
+-- every step leaves a screen in range
+pub advanced-in : {s : Screen} (b : ℕ) → b ≤ 127 → InScreen s → InScreen (advanced s b)
+unfolding advanced
+advanced-in {s} b t h =
+    let f = planned-in b t (h .pen) in applied-in (planned (s .pen) b .asked) (f .asked) (f .pen) h

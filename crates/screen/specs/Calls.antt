@@ -1,0 +1,68 @@
+-- What each call answers and hands back, for any state and any values (01, "Numbers given"). Assumes nothing.
+use mathlib.Core.Bool.{Bool, true, false, cond, not}
+use mathlib.Core.List.{List, [], _∷_}
+use Prim.Native.Nat.{ℕ}
+use lib.Dec.{ltb}
+use lib.ListN.{length}
+use Rattle.numbers.specs.Numbers.{Conditions, Told}
+use Rattle.values.specs.Large.{firstLarge}
+use Rattle.cursor.specs.declared.Place.{Place}
+use Rattle.cursor.specs.Moves.{at, onScreen}
+use Rattle.screen.specs.declared.Screen.{Screen}
+use Rattle.screen.specs.declared.Answer.{Answer}
+use Rattle.screen.specs.declared.Answer.the-variants.{Taken, TooLarge, Broken}
+use Rattle.screen.specs.declared.Stepped.{Stepped}
+use Rattle.screen.specs.declared.Ran.{Ran}
+use Rattle.screen.specs.declared.reading.Read.{Read}
+use Rattle.screen.specs.declared.reading.Read.the-variants.{Broken as Unread, Off, There}
+use Rattle.screen.specs.declared.reading.Cursor.{Cursor}
+use Rattle.screen.specs.declared.reading.Cursor.the-variants.{Broken as Lost, Hidden, Shown}
+use Rattle.screen.specs.Screens.{cellAt, advanced, advancedBy}
+use Rattle.screen.specs.Ranges.{inRange}
+
+-- the number of each answer, and what it names
+abbrev pub told : Answer → Told
+told Taken = record { number = 0; named = [] }
+told (TooLarge place) = record { number = 2; named = place ∷ [] }
+told Broken = record { number = 5; named = [] }
+
+-- ---- one value
+
+abbrev pub stepsTo : Screen → Answer → Stepped
+stepsTo s a = record { screen = s; answer = a }
+
+-- "broken state .. that state handed back"; "value too large .. state unchanged"
+unfoldable pub stepped : Screen → ℕ → Stepped
+stepped s b =
+    cond (inRange s) (cond (ltb 127 b) (stepsTo s (TooLarge 0)) (stepsTo (advanced s b) Taken)) (stepsTo s Broken)
+
+-- ---- a piece of values
+
+abbrev pub runsTo : Screen → Answer → Ran
+runsTo s a = record { screen = s; answer = a }
+
+unfoldable pub ran : Screen → List ℕ → Ran
+ran s vs =
+    cond (inRange s)
+    (cond (ltb (firstLarge vs) (length vs)) (runsTo s (TooLarge (firstLarge vs))) (runsTo (advancedBy s vs) Taken))
+    (runsTo s Broken)
+
+-- "a state handed in lies outside the ranges this page gives"; "a value handed to .. screen .. is above 127"
+abbrev pub runConditions : Screen → List ℕ → Conditions
+runConditions s vs =
+    record {
+      wrongLength = false;
+      brokenState = not (inRange s);
+      tooLarge = ltb (firstLarge vs) (length vs);
+      noRoom = false;
+      repeat = false;
+    }
+
+-- ---- reading
+
+-- a place off the screen has an answer of its own
+unfoldable pub read : Screen → ℕ → ℕ → Read
+read s r c = cond (inRange s) (cond (onScreen (at r c)) (There (cellAt s (at r c))) Off) Unread
+
+unfoldable pub pointed : Screen → Cursor
+pointed s = cond (inRange s) (cond (s .pen .shown) (Shown (s .pen .place)) (Hidden (s .pen .place))) Lost

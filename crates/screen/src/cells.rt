@@ -1,0 +1,70 @@
+// What is done to the cells: nothing, rows 1 to 24 blank, or a character written so many times.
+ghost use mathlib.Core.Path.{_≡_};
+ghost use Rattle.cursor.specs.Moves.{On};
+ghost use Rattle.screen.specs.Screens.{indexOf, withPen, cleared, writtenTimes, applied};
+use crate::Screen;
+use cursor::Place;
+use pen::Asked;
+use pen::Pen;
+
+// Where a place's cell lies among the thousand.
+pub(crate) fn index(place: Place) -> usize
+    requires { ⌜ On place ⌝ }
+    ensures { λ r. ⌜ r ≡ indexOf place ⌝ }
+{
+    (place.row as usize) * 40 + (place.column as usize) - 1
+}
+
+impl Screen {
+    pub(crate) fn with_pen(mut self, pen: Pen) -> Screen
+        ensures { λ r. ⌜ r ≡ withPen self pen ⌝ }
+    {
+        self.pen = pen;
+        self
+    }
+
+    // Rows 1 to 24 blank, row 0 kept.
+    fn clear(self, pen: Pen) -> Screen
+        ensures { λ r. ⌜ r ≡ cleared self pen ⌝ }
+    {
+        let blank = attributes::blank();
+        let mut cells = [blank; 1000];
+        let mut i: usize = 0;
+        while i < 40 {
+            let old = self.cells[i];
+            cells[i] = old;
+            i += 1;
+        }
+        Screen { cells, pen }
+    }
+
+    // A character, so many times.
+    fn write(mut self, set: u8, code: u8, times: u8) -> Screen
+        requires { ⌜ On (self .pen .place) ⌝ }
+        ensures { λ r. ⌜ r ≡ writtenTimes self set code times ⌝ }
+    {
+        let mut done: u8 = 0;
+        while done < times {
+            let at = index(self.pen.place);
+            let stroke = self.pen.write(set, code);
+            let cell = stroke.cell;
+            let pen = stroke.pen;
+            self.cells[at] = cell;
+            self.pen = pen;
+            done += 1;
+        }
+        self
+    }
+
+    // What the pen asks.
+    pub(crate) fn apply(self, pen: Pen, asked: Asked) -> Screen
+        requires { ⌜ On (pen .place) ⌝ }
+        ensures { λ r. ⌜ r ≡ applied self pen asked ⌝ }
+    {
+        match asked {
+            Asked::Nothing => self.with_pen(pen),
+            Asked::Blank => self.clear(pen),
+            Asked::Put { set, code, times } => self.with_pen(pen).write(set, code, times),
+        }
+    }
+}

@@ -1,0 +1,81 @@
+// A piece of values on a screen in range. The pen is carried beside the cells, and a single character is stored in
+// place: no value but FF and REP copies the thousand cells.
+ghost use mathlib.Core.Path.{_≡_};
+ghost use mathlib.Core.Bool.{true};
+ghost use Prim.Native.Nat.{_≤_};
+ghost use Rattle.values.specs.Large.{Values};
+ghost use Rattle.pen.specs.Pens.{inRange as penInRange};
+ghost use Rattle.pen.specs.Planning.{planned};
+ghost use Rattle.screen.specs.Screens.{advancedBy};
+ghost use Rattle.screen.specs.Ranges.{inRange};
+use crate::Screen;
+use crate::cells::index;
+use pen::Asked;
+use pen::Pen;
+use pen::Plan;
+
+// What a value does; where it is a character with nothing unfinished, without testing the pen once more.
+fn plan_quickly(pen: Pen, value: u8) -> Plan
+    requires { ⌜ penInRange pen ≡ true ⌝ }
+    requires { ⌜ value ≤ 127 ⌝ }
+    ensures { λ r. ⌜ r ≡ planned pen value ⌝ }
+{
+    let sequence = pen.sequence;
+    if sequence.is_free() {
+        if 31 < value {
+            let set = pen.attributes.set;
+            return Plan {
+                pen,
+                asked: Asked::Put {
+                    set,
+                    code: value,
+                    times: 1,
+                },
+            };
+        }
+    }
+    pen.plan(value)
+}
+
+impl Screen {
+    pub(crate) fn advance(self, values: &[u8]) -> Screen
+        requires { ⌜ inRange self ≡ true ⌝ }
+        requires { ⌜ Values (now values) ⌝ }
+        ensures { λ r. ⌜ r ≡ advancedBy self (now (values .entry)) ⌝ }
+    {
+        let mut screen = self;
+        let mut pen = self.pen;
+        let mut i: usize = 0;
+        while i < values.len() {
+            let plan = plan_quickly(pen, values[i]);
+            let next = plan.pen;
+            let asked = plan.asked;
+            match asked {
+                Asked::Nothing => {
+                    pen = next;
+                    i += 1;
+                }
+                Asked::Blank => {
+                    screen = screen.apply(next, asked);
+                    pen = screen.pen;
+                    i += 1;
+                }
+                Asked::Put { set, code, times } => {
+                    if times == 1 {
+                        let at = index(next.place);
+                        let stroke = next.write(set, code);
+                        let cell = stroke.cell;
+                        screen.cells[at] = cell;
+                        pen = stroke.pen;
+                        i += 1;
+                    } else {
+                        screen = screen.apply(next, asked);
+                        pen = screen.pen;
+                        i += 1;
+                    }
+                }
+            }
+        }
+        screen.with_pen(pen)
+    }
+}

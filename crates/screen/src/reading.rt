@@ -1,0 +1,56 @@
+// Reading a screen: a cell by its place, and the cursor.
+ghost use mathlib.Core.Path.{_≡_};
+ghost use Rattle.screen.specs.Calls.{read, pointed};
+use crate::Screen;
+use crate::cells::index;
+use attributes::Cell;
+use cursor::Place;
+
+pub enum Read {
+    Broken,
+    // No such place on the screen.
+    Off,
+    There(Cell),
+}
+
+pub enum Cursor {
+    Broken,
+    Hidden(Place),
+    Shown(Place),
+}
+
+impl Screen {
+    // The cell at a row, from 0, and a column, from 1.
+    pub fn cell(self, row: u8, column: u8) -> Read
+        ensures { λ r. ⌜ r ≡ read self row column ⌝ }
+    {
+        if self.in_range() {
+            let place = Place { row, column };
+            if place.on_screen() {
+                let at = index(place);
+                let cell = self.cells[at];
+                Read::There(cell)
+            } else {
+                Read::Off
+            }
+        } else {
+            Read::Broken
+        }
+    }
+
+    // Where the cursor is, and whether it is shown.
+    pub fn cursor(self) -> Cursor
+        ensures { λ r. ⌜ r ≡ pointed self ⌝ }
+    {
+        if self.in_range() {
+            let place = self.pen.place;
+            if self.pen.shown {
+                Cursor::Shown(place)
+            } else {
+                Cursor::Hidden(place)
+            }
+        } else {
+            Cursor::Broken
+        }
+    }
+}
