@@ -13,10 +13,10 @@ use Rattle.screen.specs.declared.Answer.{Answer}
 use Rattle.screen.specs.declared.Answer.the-variants.{Taken, TooLarge, Broken}
 use Rattle.screen.specs.declared.Stepped.{Stepped}
 use Rattle.screen.specs.declared.Ran.{Ran}
-use Rattle.screen.specs.declared.reading.Read.{Read}
-use Rattle.screen.specs.declared.reading.Read.the-variants.{Broken as Unread, Off, There}
-use Rattle.screen.specs.declared.reading.Cursor.{Cursor}
-use Rattle.screen.specs.declared.reading.Cursor.the-variants.{Broken as Lost, Hidden, Shown}
+use Rattle.screen.specs.declared.Read.{Read}
+use Rattle.screen.specs.declared.Read.the-variants.{Broken as Unread, Off, There}
+use Rattle.screen.specs.declared.Cursor.{Cursor}
+use Rattle.screen.specs.declared.Cursor.the-variants.{Broken as Lost, Hidden, Shown}
 use Rattle.screen.specs.Screens.{cellAt, advanced, advancedBy}
 use Rattle.screen.specs.Ranges.{inRange}
 

@@ -14,6 +14,7 @@ mod ranges;
 mod reading;
 
 use attributes::Cell;
+use cursor::Place;
 use pen::Pen;
 
 pub struct Screen {
@@ -38,6 +39,21 @@ pub struct Stepped {
 pub struct Ran {
     pub screen: Screen,
     pub answer: Answer,
+}
+
+// What reading a cell gives.
+pub enum Read {
+    Broken,
+    // No such place on the screen.
+    Off,
+    There(Cell),
+}
+
+// What reading the cursor gives.
+pub enum Cursor {
+    Broken,
+    Hidden(Place),
+    Shown(Place),
 }
 
 impl Screen {

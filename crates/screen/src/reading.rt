@@ -1,23 +1,11 @@
 // Reading a screen: a cell by its place, and the cursor.
 ghost use mathlib.Core.Path.{_≡_};
 ghost use Rattle.screen.specs.Calls.{read, pointed};
+use crate::Cursor;
+use crate::Read;
 use crate::Screen;
 use crate::cells::index;
-use attributes::Cell;
 use cursor::Place;
-
-pub enum Read {
-    Broken,
-    // No such place on the screen.
-    Off,
-    There(Cell),
-}
-
-pub enum Cursor {
-    Broken,
-    Hidden(Place),
-    Shown(Place),
-}
 
 impl Screen {
     // The cell at a row, from 0, and a column, from 1.
