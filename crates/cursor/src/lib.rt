@@ -22,21 +22,13 @@ pub enum Address {
 fn row_below(row: u8) -> u8
     ensures { λ r. ⌜ r ≡ rowBelow row ⌝ }
 {
-    if row < 24 {
-        row + 1
-    } else {
-        1
-    }
+    if row < 24 { row + 1 } else { 1 }
 }
 
 fn row_above(row: u8) -> u8
     ensures { λ r. ⌜ r ≡ rowAbove row ⌝ }
 {
-    if 1 < row {
-        row - 1
-    } else {
-        24
-    }
+    if 1 < row { row - 1 } else { 24 }
 }
 
 impl Place {

@@ -48,9 +48,10 @@ Each (t ∷ u ∷ ts) = (t ≡ true) × Each (u ∷ ts)
 pub each : (ts : List Bool) → every ts ≡ true → Each ts
 each [] e = tt
 each (t ∷ []) e = e
-each (t ∷ u ∷ ts) e =
-    (is-true t (and-left t (every (u ∷ ts)) (holds e)),
-    each (u ∷ ts) (is-true (every (u ∷ ts)) (and-right t (every (u ∷ ts)) (holds e))))
+each (t ∷ u ∷ ts) e = (
+  is-true t (and-left t (every (u ∷ ts)) (holds e)),
+  each (u ∷ ts) (is-true (every (u ∷ ts)) (and-right t (every (u ∷ ts)) (holds e))),
+)
 
 -- what is chosen by a test has a property that both choices have, each where the test chooses it
 pub chosen : {A : Type 0} (P : A → Type 0) (t : Bool) {a b : A} → (t ≡ true → P a) → (t ≡ false → P b)

@@ -69,9 +69,9 @@ pub true-pen : (p : Pen) → inRange p ≡ true → InPen p
 unfolding inRange
 true-pen p e =
     let t =
-      each
-      (goodSpot (p .place) (p .attributes) ∷ goodSpot (p .kept .place) (p .kept .attributes) ∷ goodLast (p .last)
-      ∷ goodSequence (p .sequence) ∷ []) e
+    each
+    (goodSpot (p .place) (p .attributes) ∷ goodSpot (p .kept .place) (p .kept .attributes) ∷ goodLast (p .last)
+    ∷ goodSequence (p .sequence) ∷ []) e
     in
     let now = true-spot (p .place) (p .attributes) (t .0) in
     let kept = true-spot (p .kept .place) (p .kept .attributes) (t .1 .0) in

@@ -60,10 +60,7 @@ impl Pen {
     pub(crate) fn go_home(self) -> Pen
         ensures { λ r. ⌜ r ≡ startAt self home ⌝ }
     {
-        let place = Place {
-            row: 1,
-            column: 1,
-        };
+        let place = Place { row: 1, column: 1 };
         self.start_at(place)
     }
 
@@ -72,7 +69,8 @@ impl Pen {
         ensures { λ r. ⌜ r ≡ lowered self ⌝ }
     {
         if self.place.row == 0 {
-            self.with_place(self.kept.place).with_attributes(self.kept.attributes)
+            self.with_place(self.kept.place)
+                .with_attributes(self.kept.attributes)
         } else {
             self.with_place(self.place.down())
         }
@@ -84,10 +82,7 @@ impl Pen {
     {
         let place = self.place;
         let attributes = self.attributes;
-        let kept = Kept {
-            place,
-            attributes,
-        };
+        let kept = Kept { place, attributes };
         self.kept = kept;
         self
     }

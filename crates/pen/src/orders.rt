@@ -55,11 +55,14 @@ impl Pen {
                 asked: Asked::Blank,
             },
             Order::Home => self.go_home().keep_cells(),
-            Order::ShiftOut => self.with_attributes(self.attributes.shift_out()).keep_cells(),
-            Order::ShiftIn => self.with_attributes(self.attributes.shift_in()).keep_cells(),
+            Order::ShiftOut => self.with_attributes(self.attributes.shift_out())
+                .keep_cells(),
+            Order::ShiftIn => self.with_attributes(self.attributes.shift_in())
+                .keep_cells(),
             Order::Show => self.with_shown(true).keep_cells(),
             Order::Hide => self.with_shown(false).keep_cells(),
-            Order::Pair(code) => self.with_attributes(self.attributes.pair(code)).keep_cells(),
+            Order::Pair(code) => self.with_attributes(self.attributes.pair(code))
+                .keep_cells(),
             Order::Go { row, column } => self.go(row, column).keep_cells(),
             Order::Write(code) => self.put(self.attributes.set, code, 1),
             Order::Second(code) => self.put(2, code, 1),

@@ -15,7 +15,7 @@ use Rattle.sequences.specs.declared.Order.the-variants.{Skip, Left, Righ
 use Rattle.sequences.specs.declared.Order.the-variants.{ShiftOut, ShiftIn, Show, Hide, Pair, Go, Write}
 use Rattle.sequences.specs.declared.Order.the-variants.{Second, Again}
 use Rattle.sequences.specs.declared.Heard.{Heard}
-use Rattle.sequences.specs.Hearing.{inRange, does, isSeparator, among, controls, control}
+use Rattle.sequences.specs.Hearing.{inRange, isSeparator, among, order, begins, control}
 use Rattle.sequences.specs.Hearing.{followed, heard}
 
 -- ---- what a value leaves
@@ -57,23 +57,29 @@ follow-in Address c l h = (simp (le-leb 32 c l, le-leb c 127 h), tt)
 follow-in (Row r) c l h = (refl, tt)
 
 -- a property of every entry of a table is one of whatever is looked up in it
-data Throughout (P : Heard → Type 0) : List (ℕ × Heard) → Type 0 where
-  none : Throughout P []
-  also : {k : ℕ} {h : Heard} {es : List (ℕ × Heard)} → P h → Throughout P es → Throughout P ((k, h) ∷ es)
+module _ {A : Type 0} (P : A → Type 0) where
+  data Throughout : List (ℕ × A) → Type 0 where
+    none : Throughout []
+    also : {k : ℕ} {x : A} {es : List (ℕ × A)} → P x → Throughout es → Throughout ((k, x) ∷ es)
 
-among-in : (P : Heard → Type 0) (b : ℕ) {es : List (ℕ × Heard)} (d : Heard) → Throughout P es → P d → P (among b es d)
-among-in P b d none k = k
-among-in P b d (also {k = n} a t) k = chosen P (eqb b n) (λ f. a) (λ f. among-in P b d t k)
+  among-in : (b : ℕ) {es : List (ℕ × A)} (d : A) → Throughout es → P d → P (among b es d)
+  among-in b d none q = q
+  among-in b d (also {k = k} p t) q = chosen P (eqb b k) (λ e. p) (λ e. among-in b d t q)
+
+begun-in : (b : ℕ) → inRange (begins b) ≡ true
+begun-in b = among-in Good b Free (also refl (also refl (also refl (also refl (also refl none))))) refl
+  where
+    Good : Sequence → Type 0
+    Good q = inRange q ≡ true
+
+ordered-in : (b : ℕ) → InOrder (order b)
+ordered-in b =
+    among-in InOrder b Skip
+    (also tt (also tt (also tt (also tt (also tt (also tt (also tt (also tt (also tt (also tt (also tt none)))))))))))
+    tt
 
 control-in : (b : ℕ) → Fine (control b)
-control-in b = among-in Fine b (does Skip) entries (refl, tt)
-  where
-    entries : Throughout Fine controls
-    entries =
-                also (refl, tt) (also (refl, tt) (also (refl, tt) (also (refl, tt)
-        (also (refl, tt) (also (refl, tt) (also (refl, tt) (also (refl, tt)
-        (also (refl, tt) (also (refl, tt) (also (refl, tt) (also (refl, tt)
-        (also (refl, tt) (also (refl, tt) (also (refl, tt) (also (refl, tt) none)))))))))))))))
+control-in b = (begun-in b, ordered-in b)
 
 pub heard-in : (q : Sequence) (b : ℕ) → inRange q ≡ true → b ≤ 127 → Fine (heard q b)
 heard-in q b r h =

@@ -58,21 +58,29 @@ isSeparator (Row r) = false
 -- ---- C0 codes
 
 -- what stands beside b in a table, or the last argument
-abbrev pub among : ℕ → List (ℕ × Heard) → Heard → Heard
+abbrev pub among : {A : Type 0} → ℕ → List (ℕ × A) → A → A
 among b [] d = d
 among b (e ∷ es) d = cond (eqb b (e .0)) (e .1) (among b es d)
 
--- the codes obeyed: BS HT LF VT FF CR SO SI (0/8 to 0/F), CON REP SEP COFF (1/1 to 1/4), SS2 (1/9), ESC (1/B),
--- RS US (1/E, 1/F)
-abbrev pub controls : List (ℕ × Heard)
-controls =
-    (8, does Left) ∷ (9, does Right) ∷ (10, does Down) ∷ (11, does Up) ∷ (12, does Clear) ∷ (13, does First)
-    ∷ (14, does ShiftOut) ∷ (15, does ShiftIn) ∷ (17, does Show) ∷ (18, opens Repeat) ∷ (19, opens Separator)
-    ∷ (20, does Hide) ∷ (25, opens Single) ∷ (27, opens Escape) ∷ (30, does Home) ∷ (31, opens Address) ∷ []
+-- BS HT LF VT FF CR SO SI (0/8 to 0/F), CON (1/1), COFF (1/4), RS (1/E)
+abbrev pub orders : List (ℕ × Order)
+orders =
+    (8, Left) ∷ (9, Right) ∷ (10, Down) ∷ (11, Up) ∷ (12, Clear) ∷ (13, First) ∷ (14, ShiftOut) ∷ (15, ShiftIn)
+    ∷ (17, Show) ∷ (20, Hide) ∷ (30, Home) ∷ []
+
+-- REP (1/2), SEP (1/3), SS2 (1/9), ESC (1/B), US (1/F)
+abbrev pub beginnings : List (ℕ × Sequence)
+beginnings = (18, Repeat) ∷ (19, Separator) ∷ (25, Single) ∷ (27, Escape) ∷ (31, Address) ∷ []
 
 -- "other C0 codes: no action"
+abbrev pub order : ℕ → Order
+order b = among b orders Skip
+
+abbrev pub begins : ℕ → Sequence
+begins b = among b beginnings Free
+
 abbrev pub control : ℕ → Heard
-control b = among b controls (does Skip)
+control b = record { sequence = begins b; order = order b }
 
 -- ---- codes from 2/0
 

@@ -4,7 +4,7 @@
 // `hear` takes an unfinished sequence and one value, and says what is unfinished then and what is ordered. It knows no
 // cursor, no attribute and no cell. specs/Hearing says the same, rule by rule.
 ghost use mathlib.Core.Path.{_≡_};
-ghost use Rattle.sequences.specs.Hearing.{inRange, isFree, isSeparator, does, opens, control, escaped};
+ghost use Rattle.sequences.specs.Hearing.{inRange, isFree, isSeparator, order, begins, escaped};
 ghost use Rattle.sequences.specs.Hearing.{longer, controlled, again, single, followed, heard};
 
 // An unfinished sequence.
@@ -123,48 +123,37 @@ impl Sequence {
     }
 }
 
-// The sequence ends with this order.
-fn done(order: Order) -> Heard
-    ensures { λ r. ⌜ r ≡ does order ⌝ }
-{
-    Heard {
-        sequence: Sequence::Free,
-        order,
-    }
-}
-
-// The sequence goes on.
-fn open(sequence: Sequence) -> Heard
-    ensures { λ r. ⌜ r ≡ opens sequence ⌝ }
-{
-    Heard {
-        sequence,
-        order: Order::Skip,
-    }
-}
-
-// A C0 code that is obeyed.
-fn obeyed(value: u8) -> Heard
-    ensures { λ r. ⌜ r ≡ control value ⌝ }
+// What a C0 code orders.
+fn ordered(value: u8) -> Order
+    ensures { λ r. ⌜ r ≡ order value ⌝ }
 {
     match value {
-        8 => done(Order::Left),
-        9 => done(Order::Right),
-        10 => done(Order::Down),
-        11 => done(Order::Up),
-        12 => done(Order::Clear),
-        13 => done(Order::First),
-        14 => done(Order::ShiftOut),
-        15 => done(Order::ShiftIn),
-        17 => done(Order::Show),
-        18 => open(Sequence::Repeat),
-        19 => open(Sequence::Separator),
-        20 => done(Order::Hide),
-        25 => open(Sequence::Single),
-        27 => open(Sequence::Escape),
-        30 => done(Order::Home),
-        31 => open(Sequence::Address),
-        _ => done(Order::Skip),
+        8 => Order::Left,
+        9 => Order::Right,
+        10 => Order::Down,
+        11 => Order::Up,
+        12 => Order::Clear,
+        13 => Order::First,
+        14 => Order::ShiftOut,
+        15 => Order::ShiftIn,
+        17 => Order::Show,
+        20 => Order::Hide,
+        30 => Order::Home,
+        _ => Order::Skip,
+    }
+}
+
+// What a C0 code begins.
+fn begun(value: u8) -> Sequence
+    ensures { λ r. ⌜ r ≡ begins value ⌝ }
+{
+    match value {
+        18 => Sequence::Repeat,
+        19 => Sequence::Separator,
+        25 => Sequence::Single,
+        27 => Sequence::Escape,
+        31 => Sequence::Address,
+        _ => Sequence::Free,
     }
 }
 
@@ -173,12 +162,21 @@ fn pair(code: u8) -> Heard
     ensures { λ r. ⌜ r ≡ escaped code ⌝ }
 {
     if code < 48 {
-        return open(Sequence::Long);
+        return Heard {
+            sequence: Sequence::Long,
+            order: Order::Skip,
+        };
     }
     if code == 91 {
-        return open(Sequence::Control);
+        return Heard {
+            sequence: Sequence::Control,
+            order: Order::Skip,
+        };
     }
-    done(Order::Pair(code))
+    Heard {
+        sequence: Sequence::Free,
+        order: Order::Pair(code),
+    }
 }
 
 // ESC, column 2 and a code.
@@ -186,12 +184,21 @@ fn drop_long(code: u8) -> Heard
     ensures { λ r. ⌜ r ≡ longer code ⌝ }
 {
     if code < 48 {
-        return open(Sequence::Long);
+        return Heard {
+            sequence: Sequence::Long,
+            order: Order::Skip,
+        };
     }
     if 126 < code {
-        return open(Sequence::Long);
+        return Heard {
+            sequence: Sequence::Long,
+            order: Order::Skip,
+        };
     }
-    done(Order::Skip)
+    Heard {
+        sequence: Sequence::Free,
+        order: Order::Skip,
+    }
 }
 
 // ESC, 5/B and a code.
@@ -199,12 +206,21 @@ fn drop_control(code: u8) -> Heard
     ensures { λ r. ⌜ r ≡ controlled code ⌝ }
 {
     if code < 64 {
-        return open(Sequence::Control);
+        return Heard {
+            sequence: Sequence::Control,
+            order: Order::Skip,
+        };
     }
     if 126 < code {
-        return open(Sequence::Control);
+        return Heard {
+            sequence: Sequence::Control,
+            order: Order::Skip,
+        };
     }
-    done(Order::Skip)
+    Heard {
+        sequence: Sequence::Free,
+        order: Order::Skip,
+    }
 }
 
 // REP and a code.
@@ -212,9 +228,15 @@ fn repeat(code: u8) -> Heard
     ensures { λ r. ⌜ r ≡ again code ⌝ }
 {
     if code < 64 {
-        return done(Order::Skip);
+        return Heard {
+            sequence: Sequence::Free,
+            order: Order::Skip,
+        };
     }
-    done(Order::Again(code - 64))
+    Heard {
+        sequence: Sequence::Free,
+        order: Order::Again(code - 64),
+    }
 }
 
 // SS2 and a code.
@@ -222,9 +244,15 @@ fn second(code: u8) -> Heard
     ensures { λ r. ⌜ r ≡ single code ⌝ }
 {
     if code / 16 == 4 {
-        return done(Order::Skip);
+        return Heard {
+            sequence: Sequence::Free,
+            order: Order::Skip,
+        };
     }
-    done(Order::Second(code))
+    Heard {
+        sequence: Sequence::Free,
+        order: Order::Second(code),
+    }
 }
 
 // A code from 2/0, after the sequence so far.
@@ -232,15 +260,27 @@ fn follow(sequence: Sequence, code: u8) -> Heard
     ensures { λ r. ⌜ r ≡ followed sequence code ⌝ }
 {
     match sequence {
-        Sequence::Free => done(Order::Write(code)),
+        Sequence::Free => Heard {
+            sequence: Sequence::Free,
+            order: Order::Write(code),
+        },
         Sequence::Escape => pair(code),
         Sequence::Long => drop_long(code),
         Sequence::Control => drop_control(code),
-        Sequence::Separator => done(Order::Skip),
+        Sequence::Separator => Heard {
+            sequence: Sequence::Free,
+            order: Order::Skip,
+        },
         Sequence::Repeat => repeat(code),
         Sequence::Single => second(code),
-        Sequence::Address => open(Sequence::Row(code)),
-        Sequence::Row(row) => done(Order::Go { row, column: code }),
+        Sequence::Address => Heard {
+            sequence: Sequence::Row(code),
+            order: Order::Skip,
+        },
+        Sequence::Row(row) => Heard {
+            sequence: Sequence::Free,
+            order: Order::Go { row, column: code },
+        },
     }
 }
 
@@ -249,13 +289,23 @@ pub fn hear(sequence: Sequence, value: u8) -> Heard
     ensures { λ r. ⌜ r ≡ heard sequence value ⌝ }
 {
     if value == 0 {
-        return open(sequence);
+        return Heard {
+            sequence: sequence,
+            order: Order::Skip,
+        };
     }
     if 31 < value {
         return follow(sequence, value);
     }
     if sequence.is_separator() {
-        return done(Order::Skip);
+        return Heard {
+            sequence: Sequence::Free,
+            order: Order::Skip,
+        };
     }
-    obeyed(value)
+    let begun = begun(value);
+    Heard {
+        sequence: begun,
+        order: ordered(value),
+    }
 }

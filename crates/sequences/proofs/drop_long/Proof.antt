@@ -1,32 +1,18 @@
 use borrow.Author.Tests.{le-leb, le-ltb, lt-leb, lt-ltb}
-use borrow.Author.Needs.{needs}
 use Rattle.sequences.proofs.drop_long.Statement.{statement}
 use Rattle.sequences.proofs.drop_long.Tie as tie
 
--- src/lib.rt:172:9
-open-requires : tie.Need-open-requires
-open-requires c κs = search needs
-
--- src/lib.rt:172:9
+-- src/lib.rt:187:9
 returns : tie.Need-returns
-returns c = simp (c .«open» .ensures, lt-ltb _ _ (c .before .if1 .taken), lt-leb _ _ (c .before .if1 .taken))
+returns c = simp (lt-ltb _ _ (c .if1 .taken), lt-leb _ _ (c .if1 .taken))
 
--- src/lib.rt:175:9
-open-requires-2 : tie.Need-open-requires-2
-open-requires-2 c κs = search needs
-
--- src/lib.rt:175:9
+-- src/lib.rt:193:9
 returns-2 : tie.Need-returns-2
-returns-2 c = simp (c .open2 .ensures, lt-ltb _ _ (c .before .if2 .taken), lt-leb _ _ (c .before .if2 .taken), le-ltb _ _ (c .before .before .if1 .left), le-leb _ _ (c .before .before .if1 .left))
+returns-2 c = simp (lt-ltb _ _ (c .if2 .taken), lt-leb _ _ (c .if2 .taken), le-ltb _ _ (c .before .if1 .left), le-leb _ _ (c .before .if1 .left))
 
--- src/lib.rt:177:5
-done-requires : tie.Need-done-requires
-done-requires c κs = search needs
-
--- src/lib.rt:168:1
+-- src/lib.rt:183:1
 returns-3 : tie.Need-returns-3
-returns-3 c = simp (c .done .ensures, le-ltb _ _ (c .before .if2 .left), le-leb _ _ (c .before .if2 .left), le-ltb _ _ (c .before .before .if1 .left), le-leb _ _ (c .before .before .if1 .left))
+returns-3 c = simp (le-ltb _ _ (c .if2 .left), le-leb _ _ (c .if2 .left), le-ltb _ _ (c .before .if1 .left), le-leb _ _ (c .before .if1 .left))
 
 pub drop-long-spec : {M : Type 1} → statement M
-drop-long-spec =
-    tie.close (tie.spec open-requires returns open-requires-2 returns-2 done-requires returns-3)
+drop-long-spec = tie.close (tie.spec returns returns-2 returns-3)

@@ -79,11 +79,10 @@ again : (c : tie.In-loop Inv-loop μ-loop) (s : Screen)
 again c s e =
     let l = c .before in
     let a = l .before .before .before .args in
-    let v = getD (a .values .now) (l .loop .i) 0 in
-    (
+    let v = getD (a .values .now) (l .loop .i) 0 in (
       rw e (advanced-in v (small c) (l .loop .inv .1)),
       e ∙ ap (λ (x : Screen). advanced x v) (l .loop .inv .2)
-      ∙ sym (by-one (a .self) (a .values .now) (l .loop .i) (c .loop-test .taken)),
+          ∙ sym (by-one (a .self) (a .values .now) (l .loop .i) (c .loop-test .taken)),
     )
 
 -- ---- nothing is asked
@@ -125,7 +124,7 @@ loop-again-2 c =
     let p = a .before .before .before .before in
     let l = p .before .before .before .loop in
     let r =
-      again (p .before .before) _ (a .apply .ensures ∙ planned-step (l .screen) (l .pen) _ _ (p .plan-quickly .ensures))
+    again (p .before .before) _ (a .apply .ensures ∙ planned-step (l .screen) (l .pen) _ _ (p .plan-quickly .ensures))
     in
     (search needs, r .0, r .1)
 
@@ -168,7 +167,7 @@ loop-again-3 c =
     let l = p .before .before .before .loop in
     let q = p .plan-quickly .result .pen in
     let e : laid (l .screen) (w .before .index .result) (w .write .result) ≡ written (withPen (l .screen) q) _ _
-        = ap₂ (laid (l .screen)) (w .before .index .ensures) (w .write .ensures) in
+    = ap₂ (laid (l .screen)) (w .before .index .ensures) (w .write .ensures) in
     let f = once-asked (l .screen) q _ _ _ _ (k .asked .given .1) (t .if1 .taken) in
     let r = again (p .before .before) _ (e ∙ f ∙ planned-step (l .screen) (l .pen) _ _ (p .plan-quickly .ensures)) in
     (search needs, r .0, r .1)
@@ -192,8 +191,8 @@ loop-again-4 c =
     let k = a .before .before .before in
     let e = ap (applied (l .screen) (p .plan-quickly .result .pen)) (sym (k .asked .given .1)) in
     let r =
-      again (p .before .before) _
-      (a .apply2 .ensures ∙ e ∙ planned-step (l .screen) (l .pen) _ _ (p .plan-quickly .ensures))
+    again (p .before .before) _
+    (a .apply2 .ensures ∙ e ∙ planned-step (l .screen) (l .pen) _ _ (p .plan-quickly .ensures))
     in
     (search needs, r .0, r .1)
 

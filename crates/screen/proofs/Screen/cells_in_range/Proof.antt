@@ -52,8 +52,7 @@ loop-again c =
     let l = c .before .before .before .before in
     let cs = l .before .args .t1 .cells in
     let n : length cs ≡ 1000 = search (length-mapped, l .before .good .0) in
-    let h : l .loop .i < length cs = omega arith in
-    (
+    let h : l .loop .i < length cs = omega arith in (
       search needs,
       sym (next cs (l .loop .i) true h (sym (c .before .in-range .ensures) ∙ c .if1 .taken)) ∙ l .loop .inv .1,
     )

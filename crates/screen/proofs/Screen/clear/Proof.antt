@@ -51,11 +51,10 @@ loop-again c =
     let i = l .loop .i in
     let n : length s ≡ 1000 = search (length-mapped, l .before .before .good .0) in
     let h : i < length s = omega arith in
-    let k : i < length (replicate 1000 blankOf) = omega arith in
-    (
+    let k : i < length (replicate 1000 blankOf) = omega arith in (
       search needs,
       ap (λ (cs : List Cell). set cs i (getD s i noCell)) (l .loop .inv .1)
-      ∙ put s (replicate 1000 blankOf) i noCell h k,
+          ∙ put s (replicate 1000 blankOf) i noCell h k,
     )
 
 returns : tie.Need-returns Inv-loop μ-loop

@@ -61,12 +61,11 @@ loop-again c =
     let l = i .before .before .before in
     let a = l .before .args in
     let e : i .index .result ≡ indexOf (l .loop .self .pen .place) = i .index .ensures in
-    let f : w .write .result ≡ stroke (l .loop .self .pen) (a .set) (a .code) = w .write .ensures in
-    (
+    let f : w .write .result ≡ stroke (l .loop .self .pen) (a .set) (a .code) = w .write .ensures in (
       search needs,
       rw f (right-on (l .loop .inv .1)),
       ap₂ (laid (l .loop .self)) e f ∙ ap (λ (x : Screen). written x (a .set) (a .code)) (l .loop .inv .2)
-      ∙ ap (writtenTimes (a .t1) (a .set) (a .code)) (sym (add-one (l .loop .done))),
+          ∙ ap (writtenTimes (a .t1) (a .set) (a .code)) (sym (add-one (l .loop .done))),
     )
 
 returns : tie.Need-returns Inv-loop μ-loop
