@@ -1,4 +1,4 @@
--- What the tests of ranges say, and that attributes in range stay so. Assumes nothing.
+-- What the test of ranges says, and that attributes in range stay so. Assumes nothing.
 use mathlib.Core.Path.{_≡_, refl}
 use mathlib.Core.Bool.{Bool, true}
 use mathlib.Core.List.{[], _∷_}
@@ -7,27 +7,16 @@ use native.Mathlib.Omega.{arith}
 use lib.Dec.{ltb, leb, eqb, lit≤}
 use borrow.Author.Tests.{ltb-true, leb-true, le-leb}
 use Rattle.laws.proofs.Computed.{each, chosen}
+use Rattle.cells.specs.Within.{Character, InCell}
 use Rattle.attributes.specs.declared.Waiting.{Waiting}
 use Rattle.attributes.specs.declared.Waiting.the-variants.{Nothing, Ground}
 use Rattle.attributes.specs.declared.Attributes.{Attributes}
-use Rattle.attributes.specs.declared.Cell.{Cell}
-use Rattle.attributes.specs.Attributing.{attributes, startOf, shiftedOut, shiftedIn, reversed, withInverse}
+use Rattle.attributes.specs.Attributing.{attributes, startOf, shiftedOut, shiftedIn}
 use Rattle.attributes.specs.Attributing.{columnFour, columnFive, paired}
-use Rattle.attributes.specs.Written.{takes, afterWaiting, afterWriting, cellOf, blankOf}
-use Rattle.attributes.specs.Within.{goodCharacter, goodWaiting, good, goodCell}
-use Rattle.attributes.specs.Within.{Character, InWaiting, InForce, InCell}
+use Rattle.attributes.specs.Writing.{takes, afterWaiting, afterWriting, cellOf}
+use Rattle.attributes.specs.Within.{goodWaiting, good, InWaiting, InForce}
 
--- ---- the tests are the ranges
-
-pub character-true : {s d : ℕ} → Character s d → goodCharacter s d ≡ true
-unfolding goodCharacter
-character-true h = simp (le-leb _ _ (h .set), le-leb _ _ (h .low), le-leb _ _ (h .high))
-
-pub true-character : (s d : ℕ) → goodCharacter s d ≡ true → Character s d
-unfolding goodCharacter
-true-character s d e =
-    let t = each (leb s 2 ∷ leb 32 d ∷ leb d 127 ∷ []) e in
-    record { set = leb-true _ _ (t .0); low = leb-true _ _ (t .1 .0); high = leb-true _ _ (t .1 .1) }
+-- ---- the test is the ranges
 
 waiting-true : (w : Waiting) → InWaiting w → goodWaiting w ≡ true
 waiting-true Nothing h = refl
@@ -49,18 +38,6 @@ true-force a e =
       ink = leb-true _ _ (t .1 .0);
       ground = leb-true _ _ (t .1 .1 .0);
       waiting = true-waiting (a .waiting) (t .1 .1 .1);
-    }
-
-pub cell-true : {c : Cell} → InCell c → goodCell c ≡ true
-cell-true h = simp (le-leb _ _ (h .ink), le-leb _ _ (h .ground), character-true (h .character))
-
-pub true-cell : (c : Cell) → goodCell c ≡ true → InCell c
-true-cell c e =
-    let t = each (leb (c .ink) 7 ∷ leb (c .ground) 7 ∷ goodCharacter (c .set) (c .code) ∷ []) e in
-    record {
-      character = true-character (c .set) (c .code) (t .1 .1);
-      ink = leb-true _ _ (t .0);
-      ground = leb-true _ _ (t .1 .0);
     }
 
 -- ---- what stays in range
@@ -109,7 +86,3 @@ write-in {a} s d h = waited-in (a .waiting) (takes s d) (h .waiting) h
 
 pub cell-in : {a : Attributes} {s d : ℕ} → Character s d → InForce a → InCell (cellOf a s d)
 cell-in k h = record { character = k; ink = h .ink; ground = h .ground }
-
-pub blank-in : InCell blankOf
-blank-in =
-    record { character = record { set = lit≤ tt; low = lit≤ tt; high = lit≤ tt }; ink = lit≤ tt; ground = lit≤ tt }

@@ -1,3 +1,3 @@
 pub mod Attributing
-pub mod Written
+pub mod Writing
 pub mod Within

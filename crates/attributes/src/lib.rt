@@ -1,14 +1,14 @@
-// How a character is shown (01, "Screen cells"): the attributes in force, the pairs of ESC that change them, which
+// How a character is written (01, "Screen cells"): the attributes in force, the pairs of ESC that change them, which
 // character takes a waiting ground, and the cell that is written.
 //
-// Sets, codes and colours are numbers, so that any can be handed in; `in_range` tests them. specs/Attributing says
-// what each function gives; proofs/Within shows that attributes in range stay so.
+// specs/Attributing says what changes the attributes, specs/Writing what writing a character does, specs/Within what is
+// in range; proofs/Stays shows that attributes in range stay so.
 ghost use mathlib.Core.Path.{_≡_};
-ghost use Rattle.attributes.specs.Attributing.{startOf, shiftedOut, shiftedIn, withInk, waitsFor};
-ghost use Rattle.attributes.specs.Attributing.{withFlash, withInverse, reversed};
-ghost use Rattle.attributes.specs.Attributing.{columnFour, columnFive, paired};
-ghost use Rattle.attributes.specs.Written.{takes, taking, afterWriting, cellOf, blankOf};
-ghost use Rattle.attributes.specs.Within.{goodCharacter, goodWaiting, good, goodCell};
+ghost use Rattle.attributes.specs.Attributing.{startOf, shiftedOut, shiftedIn, waitsFor, columnFour};
+ghost use Rattle.attributes.specs.Attributing.{columnFive, paired};
+ghost use Rattle.attributes.specs.Writing.{takes, afterWriting, written};
+ghost use Rattle.attributes.specs.Within.{goodWaiting, good};
+use cells::Cell;
 
 // A ground that waits for the character that takes it.
 pub enum Waiting {
@@ -26,14 +26,10 @@ pub struct Attributes {
     pub inverse: bool,
 }
 
-// A character on the screen. Set 2 is G2.
-pub struct Cell {
-    pub set: u8,
-    pub code: u8,
-    pub ink: u8,
-    pub ground: u8,
-    pub flash: bool,
-    pub inverse: bool,
+// One character written: the attributes in force with and after it, and its cell.
+pub struct Written {
+    pub attributes: Attributes,
+    pub cell: Cell,
 }
 
 // Those at the start.
@@ -50,38 +46,8 @@ pub fn start() -> Attributes
     }
 }
 
-// A blank cell.
-pub fn blank() -> Cell
-    ensures { λ r. ⌜ r ≡ blankOf ⌝ }
-{
-    Cell {
-        set: 1,
-        code: 32,
-        ink: 7,
-        ground: 0,
-        flash: false,
-        inverse: false,
-    }
-}
-
-// Whether such a character can be written.
-pub fn is_character(set: u8, code: u8) -> bool
-    ensures { λ r. ⌜ r ≡ goodCharacter set code ⌝ }
-{
-    if 2 < set {
-        return false;
-    }
-    if code < 32 {
-        return false;
-    }
-    if 127 < code {
-        return false;
-    }
-    true
-}
-
 // A waiting ground is taken by a G0 space or any G1 character.
-pub fn takes_ground(set: u8, code: u8) -> bool
+fn takes_ground(set: u8, code: u8) -> bool
     ensures { λ r. ⌜ r ≡ takes set code ⌝ }
 {
     if set == 1 {
@@ -138,14 +104,29 @@ impl Attributes {
         self
     }
 
-    fn with_ink(mut self, colour: u8) -> Attributes
-        ensures { λ r. ⌜ r ≡ withInk self colour ⌝ }
+    // ESC and a code of column 4.
+    fn column_four(mut self, row: u8) -> Attributes
+        ensures { λ r. ⌜ r ≡ columnFour self row ⌝ }
     {
-        self.ink = colour;
-        self
+        if row < 8 {
+            self.ink = row;
+            return self;
+        }
+        match row {
+            8 => {
+                self.flash = true;
+                self
+            }
+            9 => {
+                self.flash = false;
+                self
+            }
+            _ => self,
+        }
     }
 
-    fn with_waiting(self, colour: u8) -> Attributes
+    // This ground waits.
+    fn waiting_for(self, colour: u8) -> Attributes
         ensures { λ r. ⌜ r ≡ waitsFor self colour ⌝ }
     {
         Attributes {
@@ -158,57 +139,25 @@ impl Attributes {
         }
     }
 
-    fn with_flash(mut self, on: bool) -> Attributes
-        ensures { λ r. ⌜ r ≡ withFlash self on ⌝ }
-    {
-        self.flash = on;
-        self
-    }
-
-    fn with_inverse(mut self, on: bool) -> Attributes
-        ensures { λ r. ⌜ r ≡ withInverse self on ⌝ }
-    {
-        self.inverse = on;
-        self
-    }
-
-    // ESC 5/D: no action in G1.
-    fn reverse(self) -> Attributes
-        ensures { λ r. ⌜ r ≡ reversed self ⌝ }
-    {
-        if self.set == 1 {
-            self
-        } else {
-            self.with_inverse(true)
-        }
-    }
-
-    // ESC and a code of column 4.
-    fn column_four(self, row: u8) -> Attributes
-        ensures { λ r. ⌜ r ≡ columnFour self row ⌝ }
-    {
-        if row < 8 {
-            return self.with_ink(row);
-        }
-        match row {
-            8 => self.with_flash(true),
-            9 => self.with_flash(false),
-            _ => self,
-        }
-    }
-
-    // ESC and a code of column 5.
-    fn column_five(self, row: u8) -> Attributes
+    // ESC and a code of column 5. Inverse is no action in G1.
+    fn column_five(mut self, row: u8) -> Attributes
         ensures { λ r. ⌜ r ≡ columnFive self row ⌝ }
     {
         if row < 8 {
-            return self.with_waiting(row);
+            return self.waiting_for(row);
         }
-        match row {
-            12 => self.with_inverse(false),
-            13 => self.reverse(),
-            _ => self,
+        if row == 12 {
+            self.inverse = false;
+            return self;
         }
+        if row == 13 {
+            if self.set == 1 {
+                return self;
+            }
+            self.inverse = true;
+            return self;
+        }
+        self
     }
 
     // ESC and a code.
@@ -222,22 +171,8 @@ impl Attributes {
         }
     }
 
-    // The ground that waited is in force, and none waits.
-    fn with_ground(self, colour: u8) -> Attributes
-        ensures { λ r. ⌜ r ≡ taking self colour ⌝ }
-    {
-        Attributes {
-            set: self.set,
-            ink: self.ink,
-            ground: colour,
-            waiting: Waiting::Nothing,
-            flash: self.flash,
-            inverse: self.inverse,
-        }
-    }
-
     // Those in force with and after this character.
-    pub fn write(self, set: u8, code: u8) -> Attributes
+    fn after(self, set: u8, code: u8) -> Attributes
         ensures { λ r. ⌜ r ≡ afterWriting self set code ⌝ }
     {
         let waiting = self.waiting;
@@ -245,7 +180,14 @@ impl Attributes {
             Waiting::Nothing => self,
             Waiting::Ground(colour) => {
                 if takes_ground(set, code) {
-                    self.with_ground(colour)
+                    Attributes {
+                        set: self.set,
+                        ink: self.ink,
+                        ground: colour,
+                        waiting: Waiting::Nothing,
+                        flash: self.flash,
+                        inverse: self.inverse,
+                    }
                 } else {
                     self
                 }
@@ -253,31 +195,19 @@ impl Attributes {
         }
     }
 
-    // The cell of a character with these attributes.
-    pub fn cell(self, set: u8, code: u8) -> Cell
-        ensures { λ r. ⌜ r ≡ cellOf self set code ⌝ }
+    // A character of this set and code is written.
+    pub fn write(self, set: u8, code: u8) -> Written
+        ensures { λ r. ⌜ r ≡ written self set code ⌝ }
     {
-        Cell {
+        let attributes = self.after(set, code);
+        let cell = Cell {
             set,
             code,
-            ink: self.ink,
-            ground: self.ground,
-            flash: self.flash,
-            inverse: self.inverse,
-        }
-    }
-}
-
-impl Cell {
-    pub fn in_range(self) -> bool
-        ensures { λ r. ⌜ r ≡ goodCell self ⌝ }
-    {
-        if 7 < self.ink {
-            return false;
-        }
-        if 7 < self.ground {
-            return false;
-        }
-        is_character(self.set, self.code)
+            ink: attributes.ink,
+            ground: attributes.ground,
+            flash: attributes.flash,
+            inverse: attributes.inverse,
+        };
+        Written { attributes, cell }
     }
 }

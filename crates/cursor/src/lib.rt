@@ -3,8 +3,8 @@
 // Every place is taken, also one off the screen, and every move gives a place. specs/Moves says which; proofs/Stays
 // shows that from a place on the screen no move leaves it, and that none but US enters row 0 or leaves it.
 ghost use mathlib.Core.Path.{_≡_};
-ghost use Rattle.cursor.specs.Moves.{onScreen, rowBelow, rowAbove, leftOf, rightOf, upOf, downOf, firstOf};
-ghost use Rattle.cursor.specs.Moves.{addressed};
+ghost use Rattle.cursor.specs.Moves.{home as homeOf, onScreen, rowBelow, rowAbove, leftOf, rightOf, upOf};
+ghost use Rattle.cursor.specs.Moves.{downOf, firstOf, addressed};
 
 // Rows count from 0, columns from 1.
 pub struct Place {
@@ -16,6 +16,13 @@ pub struct Place {
 pub enum Address {
     Nowhere,
     There(Place),
+}
+
+// Where the cursor starts.
+pub fn home() -> Place
+    ensures { λ r. ⌜ r ≡ homeOf ⌝ }
+{
+    Place { row: 1, column: 1 }
 }
 
 // Row 24 joins row 1.

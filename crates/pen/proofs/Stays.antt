@@ -13,10 +13,11 @@ use Rattle.cursor.specs.declared.Address.the-variants.{Nowhere, There}
 use Rattle.cursor.specs.Moves.{home, On, onScreen, addressed}
 use Rattle.cursor.proofs.Stays.{on-true, true-on, home-on, left-on, right-on, up-on, down-on, first-on}
 use Rattle.cursor.proofs.Stays.{Leads, address-on}
+use Rattle.cells.specs.Within.{Character, InCell}
+use Rattle.cells.proofs.Stays.{character-true, true-character}
 use Rattle.attributes.specs.declared.Attributes.{Attributes}
-use Rattle.attributes.specs.Within.{goodCharacter, good, Character, InForce, InCell}
-use Rattle.attributes.proofs.Stays.{character-true, true-character, force-true, true-force, start-in, out-in, in-in}
-use Rattle.attributes.proofs.Stays.{pair-in, write-in, cell-in}
+use Rattle.attributes.specs.Within.{good, InForce}
+use Rattle.attributes.proofs.Stays.{force-true, true-force, start-in, out-in, in-in, pair-in, write-in, cell-in}
 use Rattle.sequences.specs.declared.Sequence.{Sequence}
 use Rattle.sequences.specs.declared.Sequence.the-variants.{Free, Escape, Long, Control, Separator, Repeat}
 use Rattle.sequences.specs.declared.Sequence.the-variants.{Single, Address as Us, Row}

@@ -6,7 +6,8 @@ use Rattle.cursor.specs.declared.Place.{Place}
 use Rattle.cursor.specs.Moves.{home, onScreen, On}
 use Rattle.attributes.specs.declared.Attributes.{Attributes}
 use Rattle.attributes.specs.Attributing.{startOf}
-use Rattle.attributes.specs.Within.{goodCharacter, good, Character, InForce}
+use Rattle.cells.specs.Within.{goodCharacter, Character}
+use Rattle.attributes.specs.Within.{good, InForce}
 use Rattle.sequences.specs.declared.Sequence.{Sequence}
 use Rattle.sequences.specs.declared.Sequence.the-variants.{Free}
 use Rattle.sequences.specs.Hearing.{inRange as goodSequence}

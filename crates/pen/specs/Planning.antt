@@ -3,7 +3,7 @@ use mathlib.Core.Bool.{cond}
 use Prim.Native.Nat.{ℕ}
 use lib.Dec.{ltb}
 use Rattle.cursor.specs.Moves.{rightOf}
-use Rattle.attributes.specs.Written.{afterWriting, cellOf}
+use Rattle.attributes.specs.Writing.{written}
 use Rattle.sequences.specs.Hearing.{heard}
 use Rattle.pen.specs.declared.Last.the-variants.{Character}
 use Rattle.pen.specs.declared.Pen.{Pen}
@@ -25,7 +25,7 @@ abbrev pub after : Pen → ℕ → ℕ → Pen
 after p s d =
     record {
       place = rightOf (p .place);
-      attributes = afterWriting (p .attributes) s d;
+      attributes = written (p .attributes) s d .attributes;
       kept = p .kept;
       last = Character s d;
       sequence = p .sequence;
@@ -34,4 +34,4 @@ after p s d =
 
 -- the character has the attributes that are in force with it; "write a cell and move right"
 abbrev pub stroke : Pen → ℕ → ℕ → Stroke
-stroke p s d = record { cell = cellOf (afterWriting (p .attributes) s d) s d; pen = after p s d }
+stroke p s d = record { cell = written (p .attributes) s d .cell; pen = after p s d }

@@ -13,7 +13,7 @@ mod orders;
 mod ranges;
 
 use attributes::Attributes;
-use attributes::Cell;
+use cells::Cell;
 use cursor::Place;
 use sequences::Sequence;
 
@@ -63,7 +63,7 @@ impl Pen {
     pub fn fresh() -> Pen
         ensures { λ r. ⌜ r ≡ freshPen ⌝ }
     {
-        let place = Place { row: 1, column: 1 };
+        let place = cursor::home();
         let start = attributes::start();
         let kept = Kept {
             place,
@@ -87,7 +87,11 @@ impl Pen {
             return self.keep_cells();
         }
         if self.in_range() {
-            self.next(value)
+            let sequence = self.sequence;
+            let heard = sequences::hear(sequence, value);
+            let open = heard.sequence;
+            let order = heard.order;
+            self.with_sequence(open).obey(order)
         } else {
             self.keep_cells()
         }
@@ -97,8 +101,9 @@ impl Pen {
     pub fn write(self, set: u8, code: u8) -> Stroke
         ensures { λ r. ⌜ r ≡ strokeOf self set code ⌝ }
     {
-        let attributes = self.attributes.write(set, code);
-        let cell = attributes.cell(set, code);
+        let written = self.attributes.write(set, code);
+        let attributes = written.attributes;
+        let cell = written.cell;
         let place = self.place.right();
         let kept = self.kept;
         let sequence = self.sequence;

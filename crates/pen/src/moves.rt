@@ -1,7 +1,6 @@
 // A pen moved: to another place, home, down, or to where US leads.
 ghost use mathlib.Core.Path.{_≡_};
 ghost use Rattle.pen.specs.Pens.{withPlace, withAttributes, withSequence, withShown};
-ghost use Rattle.cursor.specs.Moves.{home, addressed};
 ghost use Rattle.pen.specs.Obeying.{startAt, lowered, keeping, entering, gone};
 use crate::Kept;
 use crate::Pen;
@@ -50,18 +49,10 @@ impl Pen {
     }
 
     // To a place, with start attributes.
-    fn start_at(self, place: Place) -> Pen
+    pub(crate) fn start_at(self, place: Place) -> Pen
         ensures { λ r. ⌜ r ≡ startAt self place ⌝ }
     {
         self.with_place(place).with_attributes(attributes::start())
-    }
-
-    // FF and RS.
-    pub(crate) fn go_home(self) -> Pen
-        ensures { λ r. ⌜ r ≡ startAt self home ⌝ }
-    {
-        let place = Place { row: 1, column: 1 };
-        self.start_at(place)
     }
 
     // LF: in row 0 back to what was kept.
@@ -103,19 +94,12 @@ impl Pen {
     }
 
     // US: to the place that its codes name, if there is one.
-    fn arrive(self, address: Address) -> Pen
+    pub(crate) fn go(self, address: Address) -> Pen
         ensures { λ r. ⌜ r ≡ gone self address ⌝ }
     {
         match address {
             Address::Nowhere => self,
             Address::There(place) => self.enter(place.row).start_at(place),
         }
-    }
-
-    // US and its two codes.
-    pub(crate) fn go(self, row: u8, column: u8) -> Pen
-        ensures { λ r. ⌜ r ≡ gone self (addressed row column) ⌝ }
-    {
-        self.arrive(cursor::locate(row, column))
     }
 }

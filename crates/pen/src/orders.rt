@@ -1,7 +1,6 @@
 // What each order does to the pen, and asks of the cells.
 ghost use mathlib.Core.Path.{_≡_};
 ghost use Rattle.pen.specs.Obeying.{asks, keeps, puts, again, obeyed};
-ghost use Rattle.pen.specs.Planning.{planned};
 use crate::Asked;
 use crate::Last;
 use crate::Pen;
@@ -40,7 +39,7 @@ impl Pen {
         }
     }
 
-    fn obey(self, order: Order) -> Plan
+    pub(crate) fn obey(self, order: Order) -> Plan
         ensures { λ r. ⌜ r ≡ obeyed self order ⌝ }
     {
         match order {
@@ -51,10 +50,10 @@ impl Pen {
             Order::Down => self.go_down().keep_cells(),
             Order::First => self.with_place(self.place.first()).keep_cells(),
             Order::Clear => Plan {
-                pen: self.go_home(),
+                pen: self.start_at(cursor::home()),
                 asked: Asked::Blank,
             },
-            Order::Home => self.go_home().keep_cells(),
+            Order::Home => self.start_at(cursor::home()).keep_cells(),
             Order::ShiftOut => self.with_attributes(self.attributes.shift_out())
                 .keep_cells(),
             Order::ShiftIn => self.with_attributes(self.attributes.shift_in())
@@ -63,21 +62,10 @@ impl Pen {
             Order::Hide => self.with_shown(false).keep_cells(),
             Order::Pair(code) => self.with_attributes(self.attributes.pair(code))
                 .keep_cells(),
-            Order::Go { row, column } => self.go(row, column).keep_cells(),
+            Order::Go { row, column } => self.go(cursor::locate(row, column)).keep_cells(),
             Order::Write(code) => self.put(self.attributes.set, code, 1),
             Order::Second(code) => self.put(2, code, 1),
             Order::Again(times) => self.again(times),
         }
-    }
-
-    // One value of 0 to 127, from a pen in range.
-    pub(crate) fn next(self, value: u8) -> Plan
-        ensures { λ r. ⌜ r ≡ planned self value ⌝ }
-    {
-        let sequence = self.sequence;
-        let heard = sequences::hear(sequence, value);
-        let open = heard.sequence;
-        let order = heard.order;
-        self.with_sequence(open).obey(order)
     }
 }

@@ -11,7 +11,7 @@ fn last_in_range(last: Last) -> bool
 {
     match last {
         Last::Never => true,
-        Last::Character { set, code } => attributes::is_character(set, code),
+        Last::Character { set, code } => cells::is_character(set, code),
     }
 }
 

@@ -84,17 +84,13 @@ control b = record { sequence = begins b; order = order b }
 
 -- ---- codes from 2/0
 
--- "ESC and column 2: dropped up to .."; "ESC 5/B: dropped up to .."; any other code makes a pair with ESC
+-- column 2 and 5/B begin a longer sequence; any other code makes a pair with ESC
 abbrev pub escaped : ℕ → Heard
 escaped c = cond (ltb c 48) (opens Long) (cond (eqb c 91) (opens Control) (does (Pair c)))
 
--- "dropped up to a code of 3/0 to 7/E"
-abbrev pub longer : ℕ → Heard
-longer c = cond (leb 48 c && leb c 126) (does Skip) (opens Long)
-
--- "dropped up to a code of 4/0 to 7/E"
-abbrev pub controlled : ℕ → Heard
-controlled c = cond (leb 64 c && leb c 126) (does Skip) (opens Control)
+-- dropped up to a code from this one to 7/E
+abbrev pub dropped : Sequence → ℕ → ℕ → Heard
+dropped q from c = cond (leb from c && leb c 126) (does Skip) (opens q)
 
 -- "REP n, n from 4/0 to 7/F: .. n minus 64 times more"; "Other n from 2/0: dropped"
 abbrev pub again : ℕ → Heard
@@ -104,12 +100,13 @@ again c = cond (ltb c 64) (does Skip) (does (Again (c - 64)))
 abbrev pub single : ℕ → Heard
 single c = cond (eqb (c / 16) 4) (does Skip) (does (Second c))
 
--- a code from 2/0 after the sequence so far; "SEP drops one code"
+-- a code from 2/0 after the sequence so far: "ESC and column 2: dropped up to a code of 3/0 to 7/E. ESC 5/B: dropped up
+-- to a code of 4/0 to 7/E. SEP drops one code"
 abbrev pub followed : Sequence → ℕ → Heard
 followed Free c = does (Write c)
 followed Escape c = escaped c
-followed Long c = longer c
-followed Control c = controlled c
+followed Long c = dropped Long 48 c
+followed Control c = dropped Control 64 c
 followed Separator c = does Skip
 followed Repeat c = again c
 followed Single c = single c

@@ -5,7 +5,7 @@
 // cursor, no attribute and no cell. specs/Hearing says the same, rule by rule.
 ghost use mathlib.Core.Path.{_≡_};
 ghost use Rattle.sequences.specs.Hearing.{inRange, isFree, isSeparator, order, begins, escaped};
-ghost use Rattle.sequences.specs.Hearing.{longer, controlled, again, single, followed, heard};
+ghost use Rattle.sequences.specs.Hearing.{dropped, again, single, followed, heard};
 
 // An unfinished sequence.
 pub enum Sequence {
@@ -179,41 +179,19 @@ fn pair(code: u8) -> Heard
     }
 }
 
-// ESC, column 2 and a code.
-fn drop_long(code: u8) -> Heard
-    ensures { λ r. ⌜ r ≡ longer code ⌝ }
+// A code of a sequence that is dropped, up to a code from this one to 7/E.
+fn skip(sequence: Sequence, from: u8, code: u8) -> Heard
+    ensures { λ r. ⌜ r ≡ dropped sequence from code ⌝ }
 {
-    if code < 48 {
+    if code < from {
         return Heard {
-            sequence: Sequence::Long,
+            sequence,
             order: Order::Skip,
         };
     }
     if 126 < code {
         return Heard {
-            sequence: Sequence::Long,
-            order: Order::Skip,
-        };
-    }
-    Heard {
-        sequence: Sequence::Free,
-        order: Order::Skip,
-    }
-}
-
-// ESC, 5/B and a code.
-fn drop_control(code: u8) -> Heard
-    ensures { λ r. ⌜ r ≡ controlled code ⌝ }
-{
-    if code < 64 {
-        return Heard {
-            sequence: Sequence::Control,
-            order: Order::Skip,
-        };
-    }
-    if 126 < code {
-        return Heard {
-            sequence: Sequence::Control,
+            sequence,
             order: Order::Skip,
         };
     }
@@ -265,8 +243,8 @@ fn follow(sequence: Sequence, code: u8) -> Heard
             order: Order::Write(code),
         },
         Sequence::Escape => pair(code),
-        Sequence::Long => drop_long(code),
-        Sequence::Control => drop_control(code),
+        Sequence::Long => skip(sequence, 48, code),
+        Sequence::Control => skip(sequence, 64, code),
         Sequence::Separator => Heard {
             sequence: Sequence::Free,
             order: Order::Skip,

@@ -2,42 +2,13 @@ use borrow.Author.Needs.{needs}
 use Rattle.attributes.proofs.Attributes.write.Statement.{statement}
 use Rattle.attributes.proofs.Attributes.write.Tie as tie
 
--- src/lib.rt:229:33
-enum-told : tie.Need-enum-told
-enum-told c = search needs
+-- src/lib.rt:202:13
+after-requires : tie.Need-after-requires
+after-requires c κs = search needs
 
--- src/lib.rt:230:29
-enum-known-waiting : tie.Need-enum-known-waiting
-enum-known-waiting c = search needs
-
--- src/lib.rt:231:20
-takes-ground-requires : tie.Need-takes-ground-requires
-takes-ground-requires c κs = search needs
-
--- src/lib.rt:232:21
-with-ground-requires : tie.Need-with-ground-requires
-with-ground-requires c κs = search needs
-
--- src/lib.rt:224:5
+-- src/lib.rt:199:5
 returns : tie.Need-returns
-returns c = search needs
-
--- src/lib.rt:224:5
-returns-2 : tie.Need-returns-2
-returns-2 c = simp (c .with-ground .ensures, c .before .if1 .taken, ← c .before .before .takes-ground .ensures, c .before .before .before .before .waiting .given .1)
-
--- src/lib.rt:224:5
-returns-3 : tie.Need-returns-3
-returns-3 c = simp (c .if1 .left, ← c .before .takes-ground .ensures, c .before .before .before .waiting .given .1)
+returns c = simp (c .after .ensures)
 
 pub write-spec : {M : Type 1} → statement M
-write-spec =
-    tie.close
-    (tie.spec
-    enum-told
-    enum-known-waiting
-    takes-ground-requires
-    with-ground-requires
-    returns
-    returns-2
-    returns-3)
+write-spec = tie.close (tie.spec after-requires returns)

@@ -3,18 +3,33 @@ use borrow.Author.Needs.{needs}
 use Rattle.pen.proofs.Pen.go.Statement.{statement}
 use Rattle.pen.proofs.Pen.go.Tie as tie
 
--- src/moves.rt:124:21
-locate-requires : tie.Need-locate-requires
-locate-requires c κs = search needs
+-- src/moves.rt:101:33
+enum-told : tie.Need-enum-told
+enum-told c = search needs
 
--- src/moves.rt:124:9
-arrive-requires : tie.Need-arrive-requires
-arrive-requires c κs = search needs
+-- src/moves.rt:102:28
+enum-known-address : tie.Need-enum-known-address
+enum-known-address c = search needs
 
--- src/moves.rt:121:5
+-- src/moves.rt:102:38
+enter-requires : tie.Need-enter-requires
+enter-requires c κs = search needs
+
+-- src/moves.rt:102:38
+start-at-requires : tie.Need-start-at-requires
+start-at-requires c κs = search needs
+
+-- src/moves.rt:97:5
 returns : tie.Need-returns
 unfolding gone
-returns c = simp (c .arrive .ensures, c .before .locate .ensures)
+returns c = simp (c .enum-told .given .1)
+
+-- src/moves.rt:97:5
+returns-2 : tie.Need-returns-2
+unfolding gone
+returns-2 c = simp (c .start-at .ensures, c .before .enter .ensures, c .before .before .before .address .given .1)
 
 pub go-spec : {M : Type 1} → statement M
-go-spec = tie.close (tie.spec locate-requires arrive-requires returns)
+go-spec =
+    tie.close
+    (tie.spec enum-told enum-known-address enter-requires start-at-requires returns returns-2)

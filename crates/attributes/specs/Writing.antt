@@ -1,11 +1,12 @@
 -- A character written: the ground that it takes, and its cell (01, "Screen cells"). Assumes nothing.
-use mathlib.Core.Bool.{Bool, true, false, cond, _&&_, _||_}
+use mathlib.Core.Bool.{Bool, cond, _&&_, _||_}
 use Prim.Native.Nat.{ℕ}
 use lib.Dec.{eqb}
+use Rattle.cells.specs.declared.Cell.{Cell}
 use Rattle.attributes.specs.declared.Waiting.{Waiting}
 use Rattle.attributes.specs.declared.Waiting.the-variants.{Nothing, Ground}
 use Rattle.attributes.specs.declared.Attributes.{Attributes}
-use Rattle.attributes.specs.declared.Cell.{Cell}
+use Rattle.attributes.specs.declared.Written.{Written}
 use Rattle.attributes.specs.Attributing.{attributes}
 
 -- "it waits until a G0 space or any G1 character, which takes it": the one predicate
@@ -28,6 +29,5 @@ afterWriting a s d = afterWaiting (a .waiting) a (takes s d)
 abbrev pub cellOf : Attributes → ℕ → ℕ → Cell
 cellOf a s d = record { set = s; code = d; ink = a .ink; ground = a .ground; flash = a .flash; inverse = a .inverse }
 
--- "A blank cell has set G1, code 2/0, ink 7, ground 0, no flash, not inverse"
-abbrev pub blankOf : Cell
-blankOf = record { set = 1; code = 32; ink = 7; ground = 0; flash = false; inverse = false }
+abbrev pub written : Attributes → ℕ → ℕ → Written
+written a s d = record { attributes = afterWriting a s d; cell = cellOf (afterWriting a s d) s d }

@@ -1,4 +1,4 @@
--- `screen::Screen::clear` meets its contract: row 0 is copied over a thousand blank cells. Assumes nothing.
+-- `cells::clear` meets its contract: row 0 is copied over a thousand blank cells. Assumes nothing.
 use mathlib.Core.Path.{_≡_, ap, _∙_}
 use mathlib.Core.List.{List, _++_}
 use Prim.Native.Nat.{ℕ, _-_, _≤_, _<_}
@@ -7,18 +7,17 @@ use lib.Dec.{lit≤}
 use lib.ListN.{length, getD, take, drop, set, replicate}
 use borrow.Author.Needs.{needs}
 use Rattle.laws.proofs.Lists.{put, length-mapped}
-use Rattle.attributes.specs.declared.Cell.{Cell}
-use Rattle.attributes.specs.Written.{blankOf}
-use Rattle.screen.specs.Screens.{cleared}
-use Rattle.screen.proofs.Steps.{noCell}
-use Rattle.screen.proofs.Screen.clear.Statement.{statement}
-use Rattle.screen.proofs.Screen.clear.Tie as tie
+use Rattle.cells.specs.declared.Cell.{Cell}
+use Rattle.cells.specs.Characters.{blankOf, cleared}
+use Rattle.cells.proofs.Stays.{noCell}
+use Rattle.cells.proofs.clear.Statement.{statement}
+use Rattle.cells.proofs.clear.Tie as tie
 
 abbrev Inv-loop : tie.InvT-loop
-Inv-loop pen self cells₀ i₀ cells i = (i ≤ 40) × (cells ≡ take i (self .cells) ++ drop i (replicate 1000 blankOf))
+Inv-loop old cells₀ i₀ cells i = (i ≤ 40) × (cells ≡ take i (old) ++ drop i (replicate 1000 blankOf))
 
 abbrev μ-loop : tie.MeasureT-loop
-μ-loop pen self cells₀ i₀ cells i = 40 - i
+μ-loop old cells₀ i₀ cells i = 40 - i
 
 blank-requires : tie.Need-blank-requires Inv-loop μ-loop
 blank-requires c κs = search needs
@@ -26,11 +25,11 @@ blank-requires c κs = search needs
 loop-holds : tie.Need-loop-holds Inv-loop μ-loop
 loop-holds c = (lit≤ tt, ap (λ (b : Cell). replicate 1000 b) (c .blank .ensures))
 
-mul-old : tie.Need-mul-old Inv-loop μ-loop
-mul-old c = search needs
+mul-kept : tie.Need-mul-kept Inv-loop μ-loop
+mul-kept c = search needs
 
-element-copy-out-old : tie.Need-element-copy-out-old Inv-loop μ-loop
-element-copy-out-old c = search needs
+array-copy-out-kept : tie.Need-array-copy-out-kept Inv-loop μ-loop
+array-copy-out-kept c = search needs
 
 mul-cells : tie.Need-mul-cells Inv-loop μ-loop
 mul-cells c = search needs
@@ -47,7 +46,7 @@ loop-less c = search needs
 loop-again : tie.Need-loop-again Inv-loop μ-loop
 loop-again c =
     let l = c .before .before in
-    let s = l .before .before .args .t1 .cells in
+    let s = l .before .before .args .t1 in
     let i = l .loop .i in
     let n : length s ≡ 1000 = search (length-mapped, l .before .before .good .0) in
     let h : i < length s = omega arith in
@@ -61,10 +60,8 @@ returns : tie.Need-returns Inv-loop μ-loop
 unfolding cleared
 returns c =
     let l = c .before in
-    let a = l .before .before .args in
     let e : l .loop .i ≡ 40 = omega arith in
-    ap (λ (cs : List Cell). record { cells = cs; pen = a .pen })
-    (l .loop .inv .1 ∙ ap (λ (i : ℕ). take i (a .t1 .cells) ++ drop i (replicate 1000 blankOf)) e)
+    l .loop .inv .1 ∙ ap (λ (i : ℕ). take i (l .before .before .args .t1) ++ drop i (replicate 1000 blankOf)) e
 
 pub clear-spec : {M : Type 1} → statement M
 clear-spec =
@@ -74,8 +71,8 @@ clear-spec =
     μ-loop
     blank-requires
     loop-holds
-    mul-old
-    element-copy-out-old
+    mul-kept
+    array-copy-out-kept
     mul-cells
     array-set-from-cells
     add-i

@@ -1,0 +1,78 @@
+-- What the tests of ranges say, and what stays in range. Assumes nothing.
+use mathlib.Core.Path.{_≡_, refl}
+use mathlib.Core.Bool.{true, false}
+use mathlib.Core.List.{List, [], _∷_, _++_}
+use Prim.Native.Nat.{ℕ, zero, suc}
+use lib.Dec.{leb, lit≤}
+use lib.ListN.{take, set, replicate}
+use borrow.Author.Tests.{leb-true, le-leb}
+use Rattle.laws.proofs.Computed.{each}
+use Rattle.cells.specs.declared.Cell.{Cell}
+use Rattle.cells.specs.Characters.{blankOf, cleared}
+use Rattle.cells.specs.Within.{goodCharacter, goodCell, allGood, Character, InCell, AllIn, none, also}
+
+-- what would be read past the end of the cells
+abbrev pub noCell : Cell
+noCell = record { set = 0; code = 0; ink = 0; ground = 0; flash = false; inverse = false }
+
+-- ---- the tests are the ranges
+
+pub character-true : {s d : ℕ} → Character s d → goodCharacter s d ≡ true
+unfolding goodCharacter
+character-true h = simp (le-leb _ _ (h .set), le-leb _ _ (h .low), le-leb _ _ (h .high))
+
+pub true-character : (s d : ℕ) → goodCharacter s d ≡ true → Character s d
+unfolding goodCharacter
+true-character s d e =
+    let t = each (leb s 2 ∷ leb 32 d ∷ leb d 127 ∷ []) e in
+    record { set = leb-true _ _ (t .0); low = leb-true _ _ (t .1 .0); high = leb-true _ _ (t .1 .1) }
+
+cell-true : {c : Cell} → InCell c → goodCell c ≡ true
+cell-true h = simp (le-leb _ _ (h .ink), le-leb _ _ (h .ground), character-true (h .character))
+
+true-cell : (c : Cell) → goodCell c ≡ true → InCell c
+true-cell c e =
+    let t = each (leb (c .ink) 7 ∷ leb (c .ground) 7 ∷ goodCharacter (c .set) (c .code) ∷ []) e in
+    record {
+      character = true-character (c .set) (c .code) (t .1 .1);
+      ink = leb-true _ _ (t .0);
+      ground = leb-true _ _ (t .1 .0);
+    }
+
+pub all-true : {cs : List Cell} → AllIn cs → allGood cs ≡ true
+unfolding allGood
+all-true none = refl
+all-true (also h k) = simp (cell-true h, all-true k)
+
+pub true-all : (cs : List Cell) → allGood cs ≡ true → AllIn cs
+unfolding allGood
+true-all [] e = none
+true-all (c ∷ cs) e = let t = each (goodCell c ∷ allGood cs ∷ []) e in also (true-cell c (t .0)) (true-all cs (t .1))
+
+-- ---- what stays in range
+
+blank-in : InCell blankOf
+blank-in =
+    record { character = record { set = lit≤ tt; low = lit≤ tt; high = lit≤ tt }; ink = lit≤ tt; ground = lit≤ tt }
+
+pub all-set : {cs : List Cell} (i : ℕ) {c : Cell} → InCell c → AllIn cs → AllIn (set cs i c)
+all-set i k none = none
+all-set zero k (also h t) = also k t
+all-set (suc i) k (also h t) = also h (all-set i k t)
+
+all-take : (n : ℕ) {cs : List Cell} → AllIn cs → AllIn (take n cs)
+all-take zero h = none
+all-take (suc n) none = none
+all-take (suc n) (also h t) = also h (all-take n t)
+
+all-append : {cs ds : List Cell} → AllIn cs → AllIn ds → AllIn (cs ++ ds)
+all-append none k = k
+all-append (also h t) k = also h (all-append t k)
+
+pub blanks-in : (n : ℕ) → AllIn (replicate n blankOf)
+blanks-in zero = none
+blanks-in (suc n) = also blank-in (blanks-in n)
+
+pub cleared-in : {cs : List Cell} → AllIn cs → AllIn (cleared cs)
+unfolding cleared
+cleared-in h = all-append (all-take 40 h) (blanks-in 960)
