@@ -7,11 +7,11 @@ use Rattle.pen.specs.declared.Asked.the-variants.{Nothing, Blank, Put}
 use Rattle.pen.specs.declared.Plan.{Plan}
 use Rattle.pen.specs.Planning.{planned}
 use Rattle.screen.specs.declared.Screen.{Screen}
-use Rattle.screen.specs.Screens.{withPen, cleared, written, writtenTimes, applied, advanced}
+use Rattle.screen.specs.Screens.{withPen, written, writtenTimes, applied, advanced}
 
 -- the pen that the screen had does not matter
 applied-any : (s : Screen) (p q : Pen) (o : Asked) → applied (withPen s p) q o ≡ applied s q o
-unfolding applied cleared
+unfolding applied
 applied-any s p q Nothing = refl
 applied-any s p q Blank = refl
 applied-any s p q (Put a d n) = refl

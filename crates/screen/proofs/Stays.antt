@@ -1,17 +1,16 @@
 -- What the range test of a screen says; every step leaves a screen in range. Assumes nothing.
 use mathlib.Core.Path.{_≡_, refl, _∙_}
 use mathlib.Core.Bool.{true}
-use mathlib.Core.List.{List, [], _∷_, _++_}
+use mathlib.Core.List.{[], _∷_}
 use Prim.Native.Nat.{ℕ, zero, suc, _+_, _*_, _-_, _≤_, _<_}
 use native.Mathlib.Omega.{arith}
-use lib.ListN.{length, take, set, replicate, length-set, length-append, length-take, length-replicate}
+use lib.ListN.{length, length-set, length-append, length-take, length-replicate}
 use Rattle.laws.proofs.Computed.{each}
 use Rattle.cursor.specs.declared.Place.{Place}
 use Rattle.cursor.specs.Moves.{On}
-use Rattle.attributes.specs.declared.Cell.{Cell}
-use Rattle.attributes.specs.Written.{blankOf}
-use Rattle.attributes.specs.Within.{goodCell, Character, InCell}
-use Rattle.attributes.proofs.Stays.{cell-true, true-cell, blank-in}
+use Rattle.cells.specs.Characters.{blankOf, cleared}
+use Rattle.cells.specs.Within.{allGood, Character}
+use Rattle.cells.proofs.Stays.{all-true, true-all, all-set, blanks-in, cleared-in}
 use Rattle.pen.specs.declared.Pen.{Pen}
 use Rattle.pen.specs.declared.Asked.{Asked}
 use Rattle.pen.specs.declared.Asked.the-variants.{Nothing, Blank, Put}
@@ -19,24 +18,14 @@ use Rattle.pen.specs.Pens.{inRange as penInRange, InPen}
 use Rattle.pen.specs.Planning.{planned}
 use Rattle.pen.proofs.Stays.{pen-true, true-pen, fresh-in, InAsked, planned-in, after-in, stroke-cell}
 use Rattle.screen.specs.declared.Screen.{Screen}
-use Rattle.screen.specs.Screens.{freshScreen, indexOf, cleared, written, writtenTimes, applied, advanced}
-use Rattle.screen.specs.Ranges.{allGood, inRange, AllIn, none, also, InScreen}
+use Rattle.screen.specs.Screens.{freshScreen, indexOf, written, writtenTimes, applied, advanced}
+use Rattle.screen.specs.Ranges.{inRange, InScreen}
 
 -- a place on the screen has its cell among the thousand
 pub index-low : {x : Place} → On x → indexOf x < 1000
 index-low h = omega (arith, h .row, h .low, h .high)
 
 -- ---- the test is the ranges
-
-all-true : {cs : List Cell} → AllIn cs → allGood cs ≡ true
-unfolding allGood
-all-true none = refl
-all-true (also h k) = simp (cell-true h, all-true k)
-
-true-all : (cs : List Cell) → allGood cs ≡ true → AllIn cs
-unfolding allGood
-true-all [] e = none
-true-all (c ∷ cs) e = let t = each (goodCell c ∷ allGood cs ∷ []) e in also (true-cell c (t .0)) (true-all cs (t .1))
 
 pub screen-true : {s : Screen} → InScreen s → inRange s ≡ true
 unfolding inRange
@@ -53,31 +42,11 @@ pub true-pen-in : (s : Screen) → inRange s ≡ true → InPen (s .pen)
 unfolding inRange
 true-pen-in s e = true-pen (s .pen) (each (penInRange (s .pen) ∷ allGood (s .cells) ∷ []) e .0)
 
--- ---- cells
-
-all-set : {cs : List Cell} (i : ℕ) {c : Cell} → InCell c → AllIn cs → AllIn (set cs i c)
-all-set i k none = none
-all-set zero k (also h t) = also k t
-all-set (suc i) k (also h t) = also h (all-set i k t)
-
-all-take : (n : ℕ) {cs : List Cell} → AllIn cs → AllIn (take n cs)
-all-take zero h = none
-all-take (suc n) none = none
-all-take (suc n) (also h t) = also h (all-take n t)
-
-all-append : {cs ds : List Cell} → AllIn cs → AllIn ds → AllIn (cs ++ ds)
-all-append none k = k
-all-append (also h t) k = also h (all-append t k)
-
-all-replicate : (n : ℕ) {c : Cell} → InCell c → AllIn (replicate n c)
-all-replicate zero k = none
-all-replicate (suc n) k = also k (all-replicate n k)
-
 -- ---- what stays in range
 
 pub fresh-in-range : InScreen freshScreen
 unfolding freshScreen
-fresh-in-range = record { pen = fresh-in; cells = all-replicate 1000 blank-in; thousand = length-replicate 1000 blankOf }
+fresh-in-range = record { pen = fresh-in; cells = blanks-in 1000; thousand = length-replicate 1000 blankOf }
 
 pub written-in : {s : Screen} (a d : ℕ) → Character a d → InScreen s → InScreen (written s a d)
 unfolding written
@@ -99,7 +68,7 @@ applied-in Nothing k j h = record { pen = j; cells = h .cells; thousand = h .tho
 applied-in {s} Blank k j h =
     record {
       pen = j;
-      cells = all-append (all-take 40 (h .cells)) (all-replicate 960 blank-in);
+      cells = cleared-in (h .cells);
       thousand = simp (length-append, length-take, length-replicate, h .thousand);
     }
 applied-in (Put a d n) k j h = times-in a d n k (record { pen = j; cells = h .cells; thousand = h .thousand })

@@ -1,18 +1,12 @@
 -- Values one after the other. Assumes nothing.
 use mathlib.Core.Path.{_≡_, refl}
-use mathlib.Core.Bool.{false}
 use mathlib.Core.List.{List, [], _∷_, _++_}
 use Prim.Native.Nat.{ℕ, _+_, _<_}
 use native.Mathlib.Numerals.{add-one}
 use lib.ListN.{length, take, getD}
 use lib.Seq.{take-suc}
-use Rattle.attributes.specs.declared.Cell.{Cell}
 use Rattle.screen.specs.declared.Screen.{Screen}
 use Rattle.screen.specs.Screens.{advanced, advancedBy}
-
--- what would be read past the end of the cells
-abbrev pub noCell : Cell
-noCell = record { set = 0; code = 0; ink = 0; ground = 0; flash = false; inverse = false }
 
 -- some, then others
 pub by-append : (s : Screen) (bs cs : List ℕ) → advancedBy s (bs ++ cs) ≡ advancedBy (advancedBy s bs) cs

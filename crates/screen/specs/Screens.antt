@@ -1,10 +1,10 @@
 -- What one value does to a screen in range (01, "Screen cells"). Assumes nothing.
-use mathlib.Core.List.{List, [], _∷_, _++_}
+use mathlib.Core.List.{List, [], _∷_}
 use Prim.Native.Nat.{ℕ, zero, suc, _+_, _-_, _*_}
-use lib.ListN.{take, set, getD, replicate}
+use lib.ListN.{set, getD, replicate}
 use Rattle.cursor.specs.declared.Place.{Place}
-use Rattle.attributes.specs.declared.Cell.{Cell}
-use Rattle.attributes.specs.Written.{blankOf}
+use Rattle.cells.specs.declared.Cell.{Cell}
+use Rattle.cells.specs.Characters.{blankOf, cleared}
 use Rattle.pen.specs.declared.Pen.{Pen}
 use Rattle.pen.specs.declared.Asked.{Asked}
 use Rattle.pen.specs.declared.Asked.the-variants.{Nothing, Blank, Put}
@@ -28,8 +28,8 @@ abbrev pub withPen : Screen → Pen → Screen
 withPen s p = record { cells = s .cells; pen = p }
 
 -- "FF: rows 1 to 24 blank, row 0 kept"
-unfoldable pub cleared : Screen → Pen → Screen
-cleared s p = record { cells = take 40 (s .cells) ++ replicate 960 blankOf; pen = p }
+abbrev pub blanked : Screen → Pen → Screen
+blanked s p = record { cells = cleared (s .cells); pen = p }
 
 -- a character of set a and code d is written at the cursor
 unfoldable pub written : Screen → ℕ → ℕ → Screen
@@ -47,7 +47,7 @@ writtenTimes s a d (suc n) = written (writtenTimes s a d n) a d
 -- what the pen asks is done
 unfoldable pub applied : Screen → Pen → Asked → Screen
 applied s p Nothing = withPen s p
-applied s p Blank = cleared s p
+applied s p Blank = blanked s p
 applied s p (Put a d n) = writtenTimes (withPen s p) a d n
 
 -- one value of 0 to 127

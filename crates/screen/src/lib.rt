@@ -8,12 +8,12 @@ ghost use mathlib.Core.Path.{_≡_};
 ghost use Rattle.screen.specs.Screens.{freshScreen};
 ghost use Rattle.screen.specs.Calls.{stepped, ran};
 
-mod cells;
+mod drawing;
 mod pieces;
 mod ranges;
 mod reading;
 
-use attributes::Cell;
+use cells::Cell;
 use cursor::Place;
 use pen::Pen;
 
@@ -61,7 +61,7 @@ impl Screen {
     pub fn fresh() -> Screen
         ensures { λ r. ⌜ r ≡ freshScreen ⌝ }
     {
-        let blank = attributes::blank();
+        let blank = cells::blank();
         let cells = [blank; 1000];
         let pen = Pen::fresh();
         Screen { cells, pen }

@@ -9,7 +9,7 @@ ghost use Rattle.pen.specs.Planning.{planned};
 ghost use Rattle.screen.specs.Screens.{advancedBy};
 ghost use Rattle.screen.specs.Ranges.{inRange};
 use crate::Screen;
-use crate::cells::index;
+use crate::drawing::index;
 use pen::Asked;
 use pen::Pen;
 use pen::Plan;

@@ -4,7 +4,7 @@ ghost use Rattle.screen.specs.Calls.{read, pointed};
 use crate::Cursor;
 use crate::Read;
 use crate::Screen;
-use crate::cells::index;
+use crate::drawing::index;
 use cursor::Place;
 
 impl Screen {

@@ -5,11 +5,11 @@ use lib.ListN.{length, getD}
 use Rattle.laws.proofs.Lists.{getD-any, length-mapped}
 use Rattle.cursor.specs.Moves.{at}
 use Rattle.cursor.proofs.Stays.{true-on}
-use Rattle.attributes.specs.Written.{blankOf}
+use Rattle.cells.specs.Characters.{blankOf}
+use Rattle.cells.proofs.Stays.{noCell}
 use Rattle.screen.specs.Screens.{cellAt}
 use Rattle.screen.specs.Calls.{read}
 use Rattle.screen.proofs.Stays.{index-low}
-use Rattle.screen.proofs.Steps.{noCell}
 use borrow.Author.Needs.{needs}
 use Rattle.screen.proofs.Screen.cell.Statement.{statement}
 use Rattle.screen.proofs.Screen.cell.Tie as tie

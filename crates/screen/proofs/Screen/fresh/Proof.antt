@@ -2,7 +2,7 @@
 use mathlib.Core.Path.{ap₂}
 use lib.ListN.{replicate}
 use borrow.Author.Needs.{needs}
-use Rattle.attributes.specs.declared.Cell.{Cell}
+use Rattle.cells.specs.declared.Cell.{Cell}
 use Rattle.pen.specs.declared.Pen.{Pen}
 use Rattle.screen.specs.declared.Screen.{Screen}
 use Rattle.screen.specs.Screens.{freshScreen}

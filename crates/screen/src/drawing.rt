@@ -1,7 +1,7 @@
 // What is done to the cells: nothing, rows 1 to 24 blank, or a character written so many times.
 ghost use mathlib.Core.Path.{_≡_};
 ghost use Rattle.cursor.specs.Moves.{On};
-ghost use Rattle.screen.specs.Screens.{indexOf, withPen, cleared, writtenTimes, applied};
+ghost use Rattle.screen.specs.Screens.{indexOf, withPen, blanked, writtenTimes, applied};
 use crate::Screen;
 use cursor::Place;
 use pen::Asked;
@@ -25,16 +25,10 @@ impl Screen {
 
     // Rows 1 to 24 blank, row 0 kept.
     fn clear(self, pen: Pen) -> Screen
-        ensures { λ r. ⌜ r ≡ cleared self pen ⌝ }
+        ensures { λ r. ⌜ r ≡ blanked self pen ⌝ }
     {
-        let blank = attributes::blank();
-        let mut cells = [blank; 1000];
-        let mut i: usize = 0;
-        while i < 40 {
-            let old = self.cells[i];
-            cells[i] = old;
-            i += 1;
-        }
+        let old = self.cells;
+        let cells = cells::clear(old);
         Screen { cells, pen }
     }
 
