@@ -1,5 +1,5 @@
 -- The attributes in force, and the codes that change them (01, "Screen cells"). Assumes nothing.
-use mathlib.Core.Bool.{Bool, true, false, cond}
+use mathlib.Core.Bool.{Bool, true, false, cond, _&&_}
 use Prim.Native.Nat.{ℕ, _/_, _%_}
 use lib.Dec.{ltb, eqb}
 use Rattle.attributes.specs.declared.Waiting.{Waiting}
@@ -54,3 +54,13 @@ columnFive a n =
 -- ESC and a code, by its column and row; "Other ESC pairs ..: no action"
 abbrev pub paired : Attributes → ℕ → Attributes
 paired a c = cond (eqb (c / 16) 4) (columnFour a (c % 16)) (cond (eqb (c / 16) 5) (columnFive a (c % 16)) a)
+
+-- ---- grounds
+
+-- the ground in force, and what waits
+abbrev pub grounds : Attributes → ℕ × Waiting
+grounds a = (a .ground, a .waiting)
+
+-- "ESC 5/0 to 5/7: ground"
+abbrev pub namesGround : ℕ → Bool
+namesGround c = eqb (c / 16) 5 && ltb (c % 16) 8

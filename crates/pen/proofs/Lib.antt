@@ -1,2 +1,4 @@
 pub mod Stays
 pub mod Plans
+pub mod Fates
+pub mod Row0

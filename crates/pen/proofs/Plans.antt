@@ -5,9 +5,10 @@ use Prim.Native.Nat.{ℕ, _≤_, _<_}
 use borrow.Author.Tests.{le-ltb}
 use Rattle.sequences.specs.declared.Sequence.{Sequence}
 use Rattle.sequences.specs.declared.Sequence.the-variants.{Free}
+use Rattle.sequences.specs.declared.Order.the-variants.{Write}
 use Rattle.sequences.specs.declared.Heard.{Heard}
-use Rattle.sequences.specs.Hearing.{isFree, heard}
-use Rattle.sequences.proofs.Text.{free, heard-text}
+use Rattle.sequences.specs.Hearing.{isFree, does, heard}
+use Rattle.sequences.proofs.Codes.{free, heard-code}
 use Rattle.pen.specs.declared.Pen.{Pen}
 use Rattle.pen.specs.declared.Plan.{Plan}
 use Rattle.pen.specs.Pens.{withSequence, inRange}
@@ -18,11 +19,17 @@ use Rattle.pen.specs.Planning.{planned, plan}
 pub plan-tested : (p : Pen) (b : ℕ) → inRange p ≡ true → b ≤ 127 → plan p b ≡ planned p b
 plan-tested p b e h = simp (le-ltb 127 b h, e)
 
+-- the plan for what is heard
+abbrev pub plannedBy : Pen → Heard → Plan
+plannedBy p h = obeyed (withSequence p (h .sequence)) (h .order)
+
+pub plan-heard : (p : Pen) (b : ℕ) (h : Heard) → heard (p .sequence) b ≡ h → planned p b ≡ plannedBy p h
+plan-heard p b h e = ap (plannedBy p) e
+
 -- with nothing unfinished, a code from 2/0 is written in the current set, and the pen stays
 pub plan-text : (p : Pen) (b : ℕ) → isFree (p .sequence) ≡ true → 31 < b → planned p b ≡ puts p (p .attributes .set) b 1
 unfolding obeyed
 plan-text p b e h =
     let f : p .sequence ≡ Free = free (p .sequence) e in
-    ap (λ (q : Sequence). obeyed (withSequence p (heard q b .sequence)) (heard q b .order)) f
-    ∙ ap (λ (k : Heard). obeyed (withSequence p (k .sequence)) (k .order)) (heard-text b h)
+    plan-heard p b (does (Write b)) (ap (λ (q : Sequence). heard q b) f ∙ heard-code Free b h)
     ∙ ap (λ (q : Sequence). puts (withSequence p q) (p .attributes .set) b 1) (sym f)

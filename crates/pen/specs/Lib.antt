@@ -1,3 +1,4 @@
 pub mod Pens
 pub mod Obeying
 pub mod Planning
+pub mod Grounds

@@ -1,0 +1,38 @@
+-- What a code gives, by what is unfinished. Assumes nothing.
+use mathlib.Core.Path.{_≡_, refl}
+use mathlib.Core.Bool.{true, false}
+use Prim.Native.Nat.{ℕ, _≤_, _<_}
+use native.Mathlib.Omega.{arith}
+use lib.Dec.{ltb}
+use borrow.Author.Tests.{lt-ltb, le-ltb, ne-eqb}
+use Rattle.laws.proofs.Computed.{holds, chosen}
+use Rattle.sequences.specs.declared.Sequence.{Sequence}
+use Rattle.sequences.specs.declared.Sequence.the-variants.{Free, Escape, Long, Control, Separator, Repeat}
+use Rattle.sequences.specs.declared.Sequence.the-variants.{Single, Address, Row}
+use Rattle.sequences.specs.declared.Order.the-variants.{Skip}
+use Rattle.sequences.specs.declared.Heard.{Heard}
+use Rattle.sequences.specs.Hearing.{isFree, isSeparator, does, control, followed, heard}
+
+pub free : (q : Sequence) → isFree q ≡ true → q ≡ Free
+free Free e = refl
+free Escape e = absurd (holds e)
+free Long e = absurd (holds e)
+free Control e = absurd (holds e)
+free Separator e = absurd (holds e)
+free Repeat e = absurd (holds e)
+free Single e = absurd (holds e)
+free Address e = absurd (holds e)
+free (Row r) e = absurd (holds e)
+
+-- a code from 2/0 goes on with the sequence, whatever it is
+pub heard-code : (q : Sequence) (b : ℕ) → 31 < b → heard q b ≡ followed q b
+heard-code q b h = simp (ne-eqb b 0 (λ e. omega (arith, h, e)), lt-ltb 31 b h)
+
+-- a C0 code ends a sequence and is obeyed as with nothing unfinished, except after SEP
+pub heard-control : (q : Sequence) (b : ℕ) → isSeparator q ≡ false → 1 ≤ b → b ≤ 31 → heard q b ≡ control b
+heard-control q b e l h = simp (ne-eqb b 0 (λ f. omega (arith, l, f)), le-ltb 31 b h, e)
+
+-- after SEP one code is dropped, whatever it is
+pub heard-dropped : (b : ℕ) → 1 ≤ b → heard Separator b ≡ does Skip
+heard-dropped b l =
+    simp (ne-eqb b 0 (λ f. omega (arith, l, f))) (chosen (λ (h : Heard). h ≡ does Skip) (ltb 31 b) (λ e. refl) (λ e. refl))
