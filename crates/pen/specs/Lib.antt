@@ -2,3 +2,4 @@ pub mod Pens
 pub mod Obeying
 pub mod Planning
 pub mod Grounds
+pub mod Reach

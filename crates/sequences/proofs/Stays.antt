@@ -56,18 +56,20 @@ follow-in Single c l h = chosen Fine (eqb (c / 16) 4) (λ e. (refl, tt)) (λ e. 
 follow-in Address c l h = (simp (le-leb 32 c l, le-leb c 127 h), tt)
 follow-in (Row r) c l h = (refl, tt)
 
--- a property of every entry of a table is one of whatever is looked up in it
-module _ {A : Type 0} (P : A → Type 0) where
-  data Throughout : List (ℕ × A) → Type 0 where
+-- a property that every entry of a table has, where b is its key, is one of whatever is looked up for b
+module _ {A : Type 0} (P : A → Type 0) (b : ℕ) where
+  pub data Throughout : List (ℕ × A) → Type 0 where
     none : Throughout []
-    also : {k : ℕ} {x : A} {es : List (ℕ × A)} → P x → Throughout es → Throughout ((k, x) ∷ es)
+    also : {k : ℕ} {x : A} {es : List (ℕ × A)} → (eqb b k ≡ true → P x) → Throughout es → Throughout ((k, x) ∷ es)
 
-  among-in : (b : ℕ) {es : List (ℕ × A)} (d : A) → Throughout es → P d → P (among b es d)
-  among-in b d none q = q
-  among-in b d (also {k = k} p t) q = chosen P (eqb b k) (λ e. p) (λ e. among-in b d t q)
+  pub among-in : {es : List (ℕ × A)} (d : A) → Throughout es → P d → P (among b es d)
+  among-in d none q = q
+  among-in d (also {k = k} p t) q = chosen P (eqb b k) p (λ e. among-in d t q)
 
 begun-in : (b : ℕ) → inRange (begins b) ≡ true
-begun-in b = among-in Good b Free (also refl (also refl (also refl (also refl (also refl none))))) refl
+begun-in b =
+    among-in Good b Free
+    (also (λ e. refl) (also (λ e. refl) (also (λ e. refl) (also (λ e. refl) (also (λ e. refl) none))))) refl
   where
     Good : Sequence → Type 0
     Good q = inRange q ≡ true
@@ -75,7 +77,8 @@ begun-in b = among-in Good b Free (also refl (also refl (also refl (also refl (a
 ordered-in : (b : ℕ) → InOrder (order b)
 ordered-in b =
     among-in InOrder b Skip
-    (also tt (also tt (also tt (also tt (also tt (also tt (also tt (also tt (also tt (also tt (also tt none)))))))))))
+    (also (λ e. tt) (also (λ e. tt) (also (λ e. tt) (also (λ e. tt) (also (λ e. tt) (also (λ e. tt)
+    (also (λ e. tt) (also (λ e. tt) (also (λ e. tt) (also (λ e. tt) (also (λ e. tt) none)))))))))))
     tt
 
 control-in : (b : ℕ) → Fine (control b)
