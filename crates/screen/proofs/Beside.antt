@@ -10,7 +10,7 @@ use Rattle.screen.specs.declared.Screen.{Screen}
 use Rattle.screen.specs.Screens.{withPen, written, writtenTimes, applied, advanced}
 
 -- the pen that the screen had does not matter
-applied-any : (s : Screen) (p q : Pen) (o : Asked) → applied (withPen s p) q o ≡ applied s q o
+pub applied-any : (s : Screen) (p q : Pen) (o : Asked) → applied (withPen s p) q o ≡ applied s q o
 unfolding applied
 applied-any s p q Nothing = refl
 applied-any s p q Blank = refl

@@ -2,9 +2,9 @@
 use mathlib.Core.Bool.{Bool, true, false, cond, not}
 use mathlib.Core.List.{List, [], _∷_}
 use Prim.Native.Nat.{ℕ}
-use lib.Dec.{ltb}
+use lib.Dec.{ltb, eqb}
 use lib.ListN.{length}
-use Rattle.numbers.specs.Numbers.{Conditions, Told}
+use Rattle.numbers.specs.Numbers.{Conditions, numberOf, Told}
 use Rattle.values.specs.Large.{firstLarge}
 use Rattle.cursor.specs.declared.Place.{Place}
 use Rattle.cursor.specs.Moves.{at, onScreen}
@@ -56,6 +56,14 @@ runConditions s vs =
       tooLarge = ltb (firstLarge vs) (length vs);
       noRoom = false;
       repeat = false;
+    }
+
+-- what is told of them: number 2 names the "lowest place"
+abbrev pub runTold : Screen → List ℕ → Told
+runTold s vs =
+    record {
+      number = numberOf (runConditions s vs);
+      named = cond (eqb (numberOf (runConditions s vs)) 2) (firstLarge vs ∷ []) [];
     }
 
 -- ---- reading

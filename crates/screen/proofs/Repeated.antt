@@ -1,0 +1,92 @@
+-- A character written, REP, and C0 codes within a sequence. Assumes nothing.
+use mathlib.Core.Path.{_≡_, refl, sym, ap, _∙_}
+use mathlib.Core.Bool.{true, false}
+use Prim.Native.Nat.{ℕ, _-_, _≤_, _<_}
+use native.Mathlib.Omega.{arith}
+use lib.Dec.{lit≤}
+use borrow.Author.Tests.{lt-ltb, le-ltb}
+use Rattle.sequences.specs.declared.Sequence.{Sequence}
+use Rattle.sequences.specs.declared.Sequence.the-variants.{Free, Separator, Repeat}
+use Rattle.sequences.specs.declared.Order.the-variants.{Skip, Again}
+use Rattle.sequences.specs.declared.Heard.{Heard}
+use Rattle.sequences.specs.Hearing.{isFree, isSeparator, does, control, heard}
+use Rattle.sequences.proofs.Codes.{heard-code, heard-control, heard-dropped}
+use Rattle.pen.specs.declared.Last.{Last}
+use Rattle.pen.specs.declared.Last.the-variants.{Never, Character}
+use Rattle.pen.specs.declared.Pen.{Pen}
+use Rattle.pen.specs.declared.Plan.{Plan}
+use Rattle.pen.specs.Pens.{withSequence}
+use Rattle.pen.specs.Obeying.{keeps, again, obeyed}
+use Rattle.pen.specs.Planning.{planned, penAfter}
+use Rattle.pen.proofs.Plans.{plannedBy, plan-heard, plan-text}
+use Rattle.screen.specs.declared.Screen.{Screen}
+use Rattle.screen.specs.Screens.{withPen, written, writtenTimes, applied, advanced}
+use Rattle.screen.specs.Claims.{ended}
+use Rattle.screen.proofs.Beside.{applied-any}
+
+-- what a plan does to the screen
+abbrev pub doneBy : Screen → Plan → Screen
+doneBy s a = applied s (a .pen) (a .asked)
+
+-- a step whose plan is known
+pub step-plan : (s : Screen) (b : ℕ) (a : Plan) → planned (s .pen) b ≡ a → advanced s b ≡ doneBy s a
+unfolding advanced
+step-plan s b a e = ap (doneBy s) e
+
+-- NUL changes nothing
+pub nul-step : (s : Screen) → advanced s 0 ≡ s
+unfolding advanced applied obeyed
+nul-step s = refl
+
+-- with nothing unfinished a code from 2/0 is one character of the current set
+pub text-step : (s : Screen) (b : ℕ) → s .pen .sequence ≡ Free → 32 ≤ b
+    → advanced s b ≡ written s (s .pen .attributes .set) b
+unfolding applied writtenTimes
+text-step s b e h = step-plan s b _ (plan-text (s .pen) b (ap isFree e) h)
+
+-- ---- REP
+
+-- n from 4/0: the last character, n minus 64 times
+pub again-step : (s : Screen) (a d n : ℕ) → s .pen .sequence ≡ Repeat → s .pen .last ≡ Character a d → 64 ≤ n
+    → advanced s n ≡ writtenTimes (ended s) a d (n - 64)
+unfolding obeyed applied
+again-step s a d n e l h =
+    step-plan s n _
+    (plan-heard (s .pen) n (does (Again (n - 64)))
+    (ap (λ (q : Sequence). heard q n) e ∙ heard-code Repeat n (omega (arith, h)) ∙ simp (le-ltb n 64 h))
+    ∙ ap (λ (x : Last). again (withSequence (s .pen) Free) x (n - 64)) l)
+
+-- n from 2/0 to 3/F, or no last character: the sequence ends
+pub low-step : (s : Screen) (n : ℕ) → s .pen .sequence ≡ Repeat → 32 ≤ n → n < 64 → advanced s n ≡ ended s
+unfolding obeyed applied
+low-step s n e h k =
+    step-plan s n _
+    (plan-heard (s .pen) n (does Skip)
+    (ap (λ (q : Sequence). heard q n) e ∙ heard-code Repeat n (omega (arith, h)) ∙ simp (lt-ltb n 64 k)))
+
+pub never-step : (s : Screen) (n : ℕ) → s .pen .sequence ≡ Repeat → s .pen .last ≡ Never → 64 ≤ n
+    → advanced s n ≡ ended s
+unfolding obeyed applied
+never-step s n e l h =
+    step-plan s n _
+    (plan-heard (s .pen) n (does (Again (n - 64)))
+    (ap (λ (q : Sequence). heard q n) e ∙ heard-code Repeat n (omega (arith, h)) ∙ simp (le-ltb n 64 h))
+    ∙ ap (λ (x : Last). again (withSequence (s .pen) Free) x (n - 64)) l)
+
+-- ---- a C0 code within a sequence
+
+-- it acts as with nothing unfinished
+pub control-step : (s : Screen) (b : ℕ) → isSeparator (s .pen .sequence) ≡ false → 1 ≤ b → b ≤ 31
+    → advanced s b ≡ advanced (ended s) b
+control-step s b e l h =
+    let a = plannedBy (s .pen) (control b) in
+    step-plan s b a (plan-heard (s .pen) b (control b) (heard-control (s .pen .sequence) b e l h))
+    ∙ sym (applied-any s (ended s .pen) (a .pen) (a .asked))
+    ∙ sym (step-plan (ended s) b a (plan-heard (ended s .pen) b (control b) (heard-control Free b refl l h)))
+
+-- after SEP any code but NUL is dropped
+pub dropped-step : (s : Screen) (b : ℕ) → s .pen .sequence ≡ Separator → 1 ≤ b → advanced s b ≡ ended s
+unfolding obeyed applied
+dropped-step s b e l =
+    step-plan s b _
+    (plan-heard (s .pen) b (does Skip) (ap (λ (q : Sequence). heard q b) e ∙ heard-dropped b l))

@@ -1,0 +1,125 @@
+-- Row 0: LF there brings back what stood just before the US that entered it. Assumes nothing.
+use mathlib.Core.Path.{_≡_, refl, sym, ap, _∙_}
+use mathlib.Core.Bool.{true, false}
+use mathlib.Core.List.{List, [], _∷_, _++_}
+use Prim.Native.Nat.{ℕ, zero, suc, _-_, _≤_}
+use native.Mathlib.Omega.{arith}
+use lib.Dec.{lit≤}
+use lib.ListN.{replicate}
+use Rattle.sequences.specs.declared.Sequence.{Sequence}
+use Rattle.sequences.specs.declared.Sequence.the-variants.{Free, Address, Row}
+use Rattle.sequences.specs.declared.Heard.{Heard}
+use Rattle.sequences.specs.Hearing.{isSeparator, control, opens, heard}
+use Rattle.sequences.proofs.Codes.{heard-code, heard-control}
+use Rattle.pen.specs.declared.Pen.{Pen}
+use Rattle.pen.specs.declared.Kept.{Kept}
+use Rattle.pen.specs.declared.Asked.{Asked}
+use Rattle.pen.specs.declared.Asked.the-variants.{Nothing, Blank, Put}
+use Rattle.pen.specs.declared.Plan.{Plan}
+use Rattle.pen.specs.Pens.{withSequence}
+use Rattle.pen.specs.Obeying.{keeps, obeyed}
+use Rattle.pen.specs.Planning.{planned, afterTimes, finished, penAfter}
+use Rattle.pen.proofs.Plans.{plan-heard}
+use Rattle.pen.proofs.Row0.{kept-stays, entered, enters, lf-back}
+use Rattle.screen.specs.declared.Screen.{Screen}
+use Rattle.screen.specs.Screens.{withPen, written, writtenTimes, applied, advanced, advancedBy}
+use Rattle.screen.specs.Claims.{enteringRow0, StaysInRow0, done, next}
+use Rattle.screen.proofs.Steps.{by-append}
+use Rattle.screen.proofs.Repeated.{step-plan, nul-step}
+
+-- ---- the pen after one value
+
+times-pen : (s : Screen) (a d n : ℕ) → writtenTimes s a d n .pen ≡ afterTimes (s .pen) a d n
+unfolding writtenTimes written afterTimes
+times-pen s a d zero = refl
+times-pen s a d (suc n) = ap (λ (p : Pen). again p) (times-pen s a d n)
+  where
+    again : Pen → Pen
+    again p = afterTimes p a d 1
+
+applied-pen : (s : Screen) (p : Pen) (o : Asked) → applied s p o .pen ≡ finished p o
+unfolding applied
+applied-pen s p Nothing = refl
+applied-pen s p Blank = refl
+applied-pen s p (Put a d n) = times-pen (withPen s p) a d n
+
+-- it is that of the pen alone: no cell matters
+pub step-pen : (s : Screen) (b : ℕ) → advanced s b .pen ≡ penAfter (s .pen) b
+unfolding advanced
+step-pen s b = applied-pen s (planned (s .pen) b .pen) (planned (s .pen) b .asked)
+
+-- ---- US into row 0
+
+-- NULs change nothing
+nuls : (s : Screen) (i : ℕ) (bs : List ℕ) → advancedBy s (replicate i 0 ++ bs) ≡ advancedBy s bs
+unfolding advancedBy
+nuls s zero bs = refl
+nuls s (suc i) bs = ap (λ (x : Screen). advancedBy x (replicate i 0 ++ bs)) (nul-step s) ∙ nuls s i bs
+
+with : Screen → Sequence → Screen
+with s q = withPen s (withSequence (s .pen) q)
+
+us : (s : Screen) → isSeparator (s .pen .sequence) ≡ false → advanced s 31 ≡ with s Address
+unfolding with obeyed applied
+us s e =
+    step-plan s 31 _
+    (plan-heard (s .pen) 31 (control 31) (heard-control (s .pen .sequence) 31 e (lit≤ tt) (lit≤ tt)))
+
+row : (s : Screen) → advanced (with s Address) 64 ≡ with s (Row 64)
+unfolding with obeyed applied
+row s =
+    step-plan (with s Address) 64 _
+    (plan-heard (with s Address .pen) 64 (opens (Row 64)) (heard-code Address 64 (lit≤ tt)))
+
+column : (s : Screen) (c : ℕ) → 1 ≤ s .pen .place .row → 65 ≤ c → c ≤ 104
+    → advanced (with s (Row 64)) c ≡ withPen s (entered (s .pen) c)
+unfolding with applied
+column s c r h k = step-plan (with s (Row 64)) c _ (enters (with s (Row 64) .pen) c refl r h k)
+
+-- the screen in row 0
+pub entering : (s : Screen) (i j c : ℕ) → isSeparator (s .pen .sequence) ≡ false → 1 ≤ s .pen .place .row
+    → 65 ≤ c → c ≤ 104 → advancedBy s (enteringRow0 i j c) ≡ withPen s (entered (s .pen) c)
+unfolding advancedBy
+entering s i j c e r h k =
+    ap (λ (x : Screen). advancedBy x (replicate i 0 ++ (64 ∷ replicate j 0 ++ (c ∷ [])))) (us s e)
+    ∙ nuls (with s Address) i (64 ∷ replicate j 0 ++ (c ∷ []))
+    ∙ ap (λ (x : Screen). advancedBy x (replicate j 0 ++ (c ∷ []))) (row s)
+    ∙ nuls (with s (Row 64)) j (c ∷ [])
+    ∙ column s c r h k
+
+-- ---- while the cursor stays there
+
+stays-kept : {s : Screen} {bs : List ℕ} → s .pen .place .row ≡ 0 → StaysInRow0 s bs
+    → (advancedBy s bs .pen .kept ≡ s .pen .kept) × (advancedBy s bs .pen .place .row ≡ 0)
+unfolding advancedBy
+stays-kept e done = (refl, e)
+stays-kept {s} e (next {b = b} f t) =
+    let r = stays-kept f t in
+    (r .0 ∙ ap (λ (p : Pen). p .kept) (step-pen s b) ∙ kept-stays (s .pen) b e, r .1)
+
+-- ---- LF
+
+-- a screen as US left it in row 0, after values that stay there
+back : (s e : Screen) (c : ℕ) (bs : List ℕ) → e ≡ withPen s (entered (s .pen) c) → StaysInRow0 e bs
+    → isSeparator (advancedBy e bs .pen .sequence) ≡ false
+    → (advanced (advancedBy e bs) 10 .pen .place ≡ s .pen .place)
+    × (advanced (advancedBy e bs) 10 .pen .attributes ≡ s .pen .attributes)
+    × (advanced (advancedBy e bs) 10 .cells ≡ advancedBy e bs .cells)
+unfolding applied
+back s e c bs f t q =
+    let r = stays-kept (ap (λ (x : Screen). x .pen .place .row) f) t in
+    let g = step-plan (advancedBy e bs) 10 _ (lf-back (advancedBy e bs .pen) q (r .1)) in
+    let k = r .0 ∙ ap (λ (x : Screen). x .pen .kept) f in
+    (
+      ap (λ (x : Screen). x .pen .place) g ∙ ap (λ (x : Kept). x .place) k,
+      ap (λ (x : Screen). x .pen .attributes) g ∙ ap (λ (x : Kept). x .attributes) k,
+      ap (λ (x : Screen). x .cells) g,
+    )
+
+pub returned : (s : Screen) (i j c : ℕ) (bs : List ℕ) → isSeparator (s .pen .sequence) ≡ false → 1 ≤ s .pen .place .row
+    → 65 ≤ c → c ≤ 104
+    → let e = advancedBy s (enteringRow0 i j c) in let f = advancedBy e bs in
+    StaysInRow0 e bs → isSeparator (f .pen .sequence) ≡ false
+    → (advanced f 10 .pen .place ≡ s .pen .place) × (advanced f 10 .pen .attributes ≡ s .pen .attributes)
+    × (advanced f 10 .cells ≡ f .cells)
+returned s i j c bs q r h k t u = back s (advancedBy s (enteringRow0 i j c)) c bs (entering s i j c q r h k) t u

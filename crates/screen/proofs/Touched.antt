@@ -1,0 +1,144 @@
+-- Which cells a value can change, by their places. Assumes nothing.
+use mathlib.Core.Path.{_≡_, refl, sym, ap, ap₂, _∙_, subst}
+use mathlib.Core.Bool.{Bool, true, false, cond, _&&_, not}
+use mathlib.Core.List.{List, [], _∷_}
+use Prim.Native.Nat.{ℕ, zero, suc, _+_, _-_, _*_, _≤_, _<_}
+use native.Mathlib.Nat.{le-of-suc-le-suc, not-suc-le-zero}
+use native.Mathlib.Omega.{arith}
+use lib.Dec.{eqb, lit≤}
+use lib.ListN.{getD}
+use lib.Seq.{getD-set-other}
+use borrow.Author.Tests.{eqb-true, eqb-false}
+use Rattle.laws.proofs.Computed.{each, holds, fails}
+use Rattle.cursor.specs.declared.Place.{Place}
+use Rattle.cursor.specs.Moves.{at, On, rightOf}
+use Rattle.cursor.proofs.Stays.{right-on}
+use Rattle.cells.specs.declared.Cell.{Cell}
+use Rattle.cells.specs.Characters.{blankOf, cleared}
+use Rattle.cells.proofs.Blanked.{row-0-kept, others-blank}
+use Rattle.sequences.specs.Hearing.{isSeparator, control}
+use Rattle.sequences.proofs.Codes.{heard-control}
+use Rattle.pen.specs.declared.Pen.{Pen}
+use Rattle.pen.specs.declared.Asked.{Asked}
+use Rattle.pen.specs.declared.Asked.the-variants.{Nothing, Blank, Put}
+use Rattle.pen.specs.Obeying.{obeyed}
+use Rattle.pen.specs.Planning.{planned}
+use Rattle.pen.specs.Reach.{writes, clears}
+use Rattle.pen.proofs.Plans.{plan-heard}
+use Rattle.pen.proofs.Reached.{Asks, plan-asks}
+use Rattle.screen.specs.declared.Screen.{Screen}
+use Rattle.screen.specs.Screens.{indexOf, cellAt, withPen, written, writtenTimes, applied, advanced}
+use Rattle.screen.specs.Ranges.{InScreen}
+use Rattle.screen.specs.Claims.{onwards, Among, here, later}
+use Rattle.screen.proofs.Stays.{index-low}
+use Rattle.screen.proofs.Repeated.{step-plan}
+
+-- ---- places
+
+-- two places on the screen that have one cell are one place
+one-place : {x y : Place} → On x → On y → indexOf x ≡ indexOf y → x ≡ y
+one-place {x} {y} h k e =
+    let r : x .row ≡ y .row = omega (arith, h .row, h .low, h .high, k .row, k .low, k .high, e) in
+    let c : x .column ≡ y .column = omega (arith, h .row, h .low, h .high, k .row, k .low, k .high, e) in ap₂ at r c
+
+-- ---- characters
+
+-- where the cursor is after n characters
+abbrev moved : ℕ → Place → Place
+moved zero x = x
+moved (suc n) x = rightOf (moved n x)
+
+moved-right : (n : ℕ) (x : Place) → moved n (rightOf x) ≡ rightOf (moved n x)
+moved-right zero x = refl
+moved-right (suc n) x = ap rightOf (moved-right n x)
+
+moved-on : (n : ℕ) {x : Place} → On x → On (moved n x)
+moved-on zero h = h
+moved-on (suc n) h = right-on (moved-on n h)
+
+-- it is the last of one place more
+last-among : (n : ℕ) (x : Place) → Among (moved n x) (onwards (suc n) x)
+last-among zero x = here
+last-among (suc n) x =
+    later (subst (λ (y : Place). Among y (onwards (suc n) (rightOf x))) (moved-right n x) (last-among n (rightOf x)))
+
+among-more : (m n : ℕ) (x : Place) {y : Place} → m ≤ n → Among y (onwards m x) → Among y (onwards n x)
+among-more (suc m) (suc n) x h here = here
+among-more (suc m) (suc n) x h (later a) = later (among-more m n (rightOf x) (le-of-suc-le-suc h) a)
+among-more (suc m) zero x h a = absurd (not-suc-le-zero h)
+
+-- the cursor after n characters, and a cell that none of them is written to
+times-place : (s : Screen) (a d n : ℕ) → writtenTimes s a d n .pen .place ≡ moved n (s .pen .place)
+unfolding writtenTimes written
+times-place s a d zero = refl
+times-place s a d (suc n) = ap rightOf (times-place s a d n)
+
+times-cell : (s : Screen) (a d n : ℕ) (x : Place) → On (s .pen .place) → On x
+    → (Among x (onwards n (s .pen .place)) → ⊥) → cellAt (writtenTimes s a d n) x ≡ cellAt s x
+unfolding writtenTimes written
+times-cell s a d zero x h k f = refl
+times-cell s a d (suc n) x h k f =
+    getD-set-other (writtenTimes s a d n .cells) _ (indexOf x) _ blankOf
+    (λ e. f (subst (λ (y : Place). Among y (onwards (suc n) (s .pen .place))) (sym (same e)) (last-among n (s .pen .place))))
+    ∙ times-cell s a d n x h k (λ i. f (among-more n (suc n) (s .pen .place) (omega arith) i))
+  where
+    same : indexOf x ≡ indexOf (writtenTimes s a d n .pen .place) → x ≡ moved n (s .pen .place)
+    same e = one-place k (moved-on n h) (e ∙ ap indexOf (times-place s a d n))
+
+-- ---- any value
+
+untouched : (s : Screen) (p : Pen) (o : Asked) (n : ℕ) (x : Place) → On (s .pen .place) → On x
+    → Asks false n (s .pen .place) (p .place) o → (Among x (onwards n (s .pen .place)) → ⊥)
+    → cellAt (applied s p o) x ≡ cellAt s x
+unfolding applied
+untouched s p Nothing n x h k a f = refl
+untouched s p Blank n x h k a f = absurd (fails refl (holds a))
+untouched s p (Put c d m) n x h k a f =
+    times-cell (withPen s p) c d m x (subst On (sym (a .1)) h) k
+    (λ i. f (among-more m n (s .pen .place) (a .0) (subst (λ (y : Place). Among x (onwards m y)) (a .1) i)))
+
+pub others-stay : (s : Screen) (b : ℕ) (x : Place) → On (s .pen .place) → On x
+    → clears (s .pen .sequence) b ≡ false → (Among x (onwards (writes (s .pen .sequence) b) (s .pen .place)) → ⊥)
+    → cellAt (advanced s b) x ≡ cellAt s x
+unfolding advanced
+others-stay s b x h k e f =
+    let q = s .pen .sequence in
+    untouched s (planned (s .pen) b .pen) (planned (s .pen) b .asked) (writes q b) x h k
+    (subst (λ (t : Bool). Asks t (writes q b) (s .pen .place) (planned (s .pen) b .pen .place) (planned (s .pen) b .asked))
+    e (plan-asks (s .pen) b))
+    f
+
+-- ---- FF
+
+-- the screen after an obeyed FF
+ff-cells : (s : Screen) → isSeparator (s .pen .sequence) ≡ false → advanced s 12 .cells ≡ cleared (s .cells)
+unfolding obeyed applied
+ff-cells s e =
+    ap (λ (x : Screen). x .cells)
+    (step-plan s 12 _ (plan-heard (s .pen) 12 (control 12) (heard-control (s .pen .sequence) 12 e (lit≤ tt) (lit≤ tt))))
+
+by-row : (s : Screen) (x : Place) (t : Bool) → InScreen s → On x → eqb (x .row) 0 ≡ t
+    → getD (cleared (s .cells)) (indexOf x) blankOf ≡ cond t (cellAt s x) blankOf
+by-row s x true h k e =
+    row-0-kept (s .cells) (h .thousand) (indexOf x) blankOf
+    (omega (arith, eqb-true (x .row) 0 e, k .low, k .high))
+by-row s x false h k e =
+    let r : 1 ≤ x .row = not-zero (x .row) (eqb-false (x .row) 0 e) in
+    others-blank (s .cells) (h .thousand) (indexOf x) blankOf (omega (arith, r, k .low)) (index-low k)
+  where
+    not-zero : (n : ℕ) → (n ≡ 0 → ⊥) → 1 ≤ n
+    not-zero zero f = absurd (f refl)
+    not-zero (suc n) f = omega arith
+
+-- FF, not after SEP: row 0 as it was, every other cell blank
+pub ff-cell : (s : Screen) (b : ℕ) (x : Place) → InScreen s → On x → clears (s .pen .sequence) b ≡ true
+    → cellAt (advanced s b) x ≡ cond (eqb (x .row) 0) (cellAt s x) blankOf
+ff-cell s b x h k e =
+    let t = each (eqb b 12 ∷ not (isSeparator (s .pen .sequence)) ∷ []) e in
+    ap (λ (c : ℕ). cellAt (advanced s c) x) (eqb-true b 12 (t .0))
+    ∙ ap (λ (cs : List Cell). getD cs (indexOf x) blankOf) (ff-cells s (not-true (isSeparator (s .pen .sequence)) (t .1)))
+    ∙ by-row s x (eqb (x .row) 0) h k refl
+  where
+    not-true : (t : Bool) → not t ≡ true → t ≡ false
+    not-true true e = absurd (holds e)
+    not-true false e = refl

@@ -1,0 +1,48 @@
+-- What the claims on the screen speak of (01, "Screen cells"). Assumes nothing.
+use mathlib.Core.Path.{_≡_}
+use mathlib.Core.List.{List, [], _∷_, _++_}
+use Prim.Native.Nat.{ℕ, zero, suc}
+use lib.ListN.{replicate}
+use Rattle.cursor.specs.declared.Place.{Place}
+use Rattle.cursor.specs.Moves.{rightOf}
+use Rattle.sequences.specs.declared.Sequence.the-variants.{Free}
+use Rattle.pen.specs.Pens.{withSequence}
+use Rattle.screen.specs.declared.Screen.{Screen}
+use Rattle.screen.specs.Screens.{withPen, advanced}
+use Rattle.screen.specs.Calls.{stepped}
+
+-- ---- places in writing order
+
+-- the first n places from x on: each is right of the one before it
+abbrev pub onwards : ℕ → Place → List Place
+onwards zero x = []
+onwards (suc n) x = x ∷ onwards n (rightOf x)
+
+pub data Among (x : Place) : List Place → Type 0 where
+  here : {ys : List Place} → Among x (x ∷ ys)
+  later : {y : Place} {ys : List Place} → Among x ys → Among x (y ∷ ys)
+
+-- ---- sequences
+
+-- the same screen, with nothing unfinished
+abbrev pub ended : Screen → Screen
+ended s = withPen s (withSequence (s .pen) Free)
+
+-- ---- row 0
+
+-- US, 4/0 and the column's code c, with i and j times NUL between
+abbrev pub enteringRow0 : ℕ → ℕ → ℕ → List ℕ
+enteringRow0 i j c = 31 ∷ replicate i 0 ++ (64 ∷ replicate j 0 ++ (c ∷ []))
+
+-- after each of the values the cursor is in row 0
+pub data StaysInRow0 : Screen → List ℕ → Type 0 where
+  done : {s : Screen} → StaysInRow0 s []
+  next : {s : Screen} {b : ℕ} {bs : List ℕ} → advanced s b .pen .place .row ≡ 0 → StaysInRow0 (advanced s b) bs
+      → StaysInRow0 s (b ∷ bs)
+
+-- ---- single calls
+
+-- the screen after calls of `step`, one for each value
+abbrev pub singly : Screen → List ℕ → Screen
+singly s [] = s
+singly s (b ∷ bs) = singly (stepped s b .screen) bs
