@@ -1,4 +1,5 @@
 -- The attributes in force, and the codes that change them (01, "Screen cells"). Assumes nothing.
+use mathlib.Core.Path.{_≡_}
 use mathlib.Core.Bool.{Bool, true, false, cond, _&&_}
 use Prim.Native.Nat.{ℕ, _/_, _%_}
 use lib.Dec.{ltb, eqb}
@@ -64,3 +65,9 @@ grounds a = (a .ground, a .waiting)
 -- "ESC 5/0 to 5/7: ground"
 abbrev pub namesGround : ℕ → Bool
 namesGround c = eqb (c / 16) 5 && ltb (c % 16) 8
+
+-- ---- inverse
+
+-- nothing is inverse while G1 is current
+abbrev pub Upright : Attributes → Type 0
+Upright a = a .set ≡ 1 → a .inverse ≡ false

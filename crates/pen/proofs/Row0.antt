@@ -107,5 +107,6 @@ lf-back p s e =
   where
     q : Pen
     q = withSequence p Free
+
     back : Pen
     back = withAttributes (withPlace q (p .kept .place)) (p .kept .attributes)

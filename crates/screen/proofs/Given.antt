@@ -10,10 +10,12 @@ use lib.ListN.{length}
 use borrow.Author.Tests.{lt-ltb, le-ltb}
 use Rattle.numbers.specs.Numbers.{Told, numberOf}
 use Rattle.values.specs.Large.{Values, firstLarge}
-use Rattle.values.proofs.Found.{none-large}
+use Rattle.values.proofs.Found.{none-large, values-append}
 use Rattle.screen.specs.declared.Screen.{Screen}
 use Rattle.screen.specs.declared.Answer.{Answer}
 use Rattle.screen.specs.declared.Answer.the-variants.{Taken, TooLarge, Broken}
+use Rattle.screen.specs.declared.Stepped.{Stepped}
+use Rattle.screen.specs.declared.Ran.{Ran}
 use Rattle.screen.specs.Screens.{advanced, advancedBy}
 use Rattle.screen.specs.Ranges.{inRange, InScreen}
 use Rattle.screen.specs.Calls.{told, stepsTo, stepped, runsTo, ran, runTold}
@@ -68,9 +70,25 @@ singly-by s [] h v = refl
 singly-by s (b ∷ bs) h v =
     let l : b ≤ 127 = omega (arith, v 0 (zero-lt-suc (length bs))) in
     singly-by (advanced s b) bs (advanced-in b l h) (λ i k. v (suc i) (omega (arith, k)))
-    ∙ ap (λ (x : Screen). singly x bs) (sym (ap (λ (a : _). a .screen) (step-taken s b (screen-true h) l)))
+    ∙ ap (λ (x : Screen). singly x bs) (sym (ap (λ (a : Stepped). a .screen) (step-taken s b (screen-true h) l)))
 
 -- a piece of values of 0 to 127 is its single steps
 pub run-singly : (s : Screen) (vs : List ℕ) → InScreen s → Values vs → ran s vs ≡ runsTo (singly s vs) Taken
 run-singly s vs h v =
     run-taken s vs (screen-true h) v ∙ ap (λ (x : Screen). runsTo x Taken) (singly-by s vs h v)
+
+by-in : (s : Screen) (vs : List ℕ) → InScreen s → Values vs → InScreen (advancedBy s vs)
+unfolding advancedBy
+by-in s [] h v = h
+by-in s (b ∷ bs) h v =
+    by-in (advanced s b) bs (advanced-in b (omega (arith, v 0 (zero-lt-suc (length bs)))) h)
+    (λ i k. v (suc i) (omega (arith, k)))
+
+-- a run over some values and then others is the run over the first, then over the others
+pub run-parts : (s : Screen) (us vs : List ℕ) → InScreen s → Values us → Values vs
+    → ran s (us ++ vs) ≡ ran (ran s us .screen) vs
+run-parts s us vs h k l =
+    run-taken s (us ++ vs) (screen-true h) (values-append us vs k l)
+    ∙ ap (λ (x : Screen). runsTo x Taken) (by-append s us vs)
+    ∙ sym (run-taken (advancedBy s us) vs (screen-true (by-in s us h k)) l)
+    ∙ ap (λ (r : Ran). ran (r .screen) vs) (sym (run-taken s us (screen-true h) k))

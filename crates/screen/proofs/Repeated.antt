@@ -2,15 +2,12 @@
 use mathlib.Core.Path.{_≡_, refl, sym, ap, _∙_}
 use mathlib.Core.Bool.{true, false}
 use Prim.Native.Nat.{ℕ, _-_, _≤_, _<_}
-use native.Mathlib.Omega.{arith}
-use lib.Dec.{lit≤}
-use borrow.Author.Tests.{lt-ltb, le-ltb}
 use Rattle.sequences.specs.declared.Sequence.{Sequence}
 use Rattle.sequences.specs.declared.Sequence.the-variants.{Free, Separator, Repeat}
 use Rattle.sequences.specs.declared.Order.the-variants.{Skip, Again}
 use Rattle.sequences.specs.declared.Heard.{Heard}
 use Rattle.sequences.specs.Hearing.{isFree, isSeparator, does, control, heard}
-use Rattle.sequences.proofs.Codes.{heard-code, heard-control, heard-dropped}
+use Rattle.sequences.proofs.Codes.{heard-control, heard-dropped, heard-repeat, heard-low}
 use Rattle.pen.specs.declared.Last.{Last}
 use Rattle.pen.specs.declared.Last.the-variants.{Never, Character}
 use Rattle.pen.specs.declared.Pen.{Pen}
@@ -53,7 +50,7 @@ unfolding obeyed applied
 again-step s a d n e l h =
     step-plan s n _
     (plan-heard (s .pen) n (does (Again (n - 64)))
-    (ap (λ (q : Sequence). heard q n) e ∙ heard-code Repeat n (omega (arith, h)) ∙ simp (le-ltb n 64 h))
+    (ap (λ (q : Sequence). heard q n) e ∙ heard-repeat n h)
     ∙ ap (λ (x : Last). again (withSequence (s .pen) Free) x (n - 64)) l)
 
 -- n from 2/0 to 3/F, or no last character: the sequence ends
@@ -62,7 +59,7 @@ unfolding obeyed applied
 low-step s n e h k =
     step-plan s n _
     (plan-heard (s .pen) n (does Skip)
-    (ap (λ (q : Sequence). heard q n) e ∙ heard-code Repeat n (omega (arith, h)) ∙ simp (lt-ltb n 64 k)))
+    (ap (λ (q : Sequence). heard q n) e ∙ heard-low n h k))
 
 pub never-step : (s : Screen) (n : ℕ) → s .pen .sequence ≡ Repeat → s .pen .last ≡ Never → 64 ≤ n
     → advanced s n ≡ ended s
@@ -70,7 +67,7 @@ unfolding obeyed applied
 never-step s n e l h =
     step-plan s n _
     (plan-heard (s .pen) n (does (Again (n - 64)))
-    (ap (λ (q : Sequence). heard q n) e ∙ heard-code Repeat n (omega (arith, h)) ∙ simp (le-ltb n 64 h))
+    (ap (λ (q : Sequence). heard q n) e ∙ heard-repeat n h)
     ∙ ap (λ (x : Last). again (withSequence (s .pen) Free) x (n - 64)) l)
 
 -- ---- a C0 code within a sequence

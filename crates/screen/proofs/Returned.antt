@@ -109,8 +109,7 @@ unfolding applied
 back s e c bs f t q =
     let r = stays-kept (ap (λ (x : Screen). x .pen .place .row) f) t in
     let g = step-plan (advancedBy e bs) 10 _ (lf-back (advancedBy e bs .pen) q (r .1)) in
-    let k = r .0 ∙ ap (λ (x : Screen). x .pen .kept) f in
-    (
+    let k = r .0 ∙ ap (λ (x : Screen). x .pen .kept) f in (
       ap (λ (x : Screen). x .pen .place) g ∙ ap (λ (x : Kept). x .place) k,
       ap (λ (x : Screen). x .pen .attributes) g ∙ ap (λ (x : Kept). x .attributes) k,
       ap (λ (x : Screen). x .cells) g,

@@ -1,7 +1,7 @@
 -- What a code gives, by what is unfinished. Assumes nothing.
-use mathlib.Core.Path.{_≡_, refl}
+use mathlib.Core.Path.{_≡_, refl, _∙_}
 use mathlib.Core.Bool.{true, false}
-use Prim.Native.Nat.{ℕ, _≤_, _<_}
+use Prim.Native.Nat.{ℕ, _-_, _≤_, _<_}
 use native.Mathlib.Omega.{arith}
 use lib.Dec.{ltb}
 use borrow.Author.Tests.{lt-ltb, le-ltb, ne-eqb}
@@ -9,7 +9,7 @@ use Rattle.laws.proofs.Computed.{holds, chosen}
 use Rattle.sequences.specs.declared.Sequence.{Sequence}
 use Rattle.sequences.specs.declared.Sequence.the-variants.{Free, Escape, Long, Control, Separator, Repeat}
 use Rattle.sequences.specs.declared.Sequence.the-variants.{Single, Address, Row}
-use Rattle.sequences.specs.declared.Order.the-variants.{Skip}
+use Rattle.sequences.specs.declared.Order.the-variants.{Skip, Again}
 use Rattle.sequences.specs.declared.Heard.{Heard}
 use Rattle.sequences.specs.Hearing.{isFree, isSeparator, does, control, followed, heard}
 
@@ -36,3 +36,11 @@ heard-control q b e l h = simp (ne-eqb b 0 (λ f. omega (arith, l, f)), le-ltb 3
 pub heard-dropped : (b : ℕ) → 1 ≤ b → heard Separator b ≡ does Skip
 heard-dropped b l =
     simp (ne-eqb b 0 (λ f. omega (arith, l, f))) (chosen (λ (h : Heard). h ≡ does Skip) (ltb 31 b) (λ e. refl) (λ e. refl))
+
+-- REP n from 4/0 orders the last character n minus 64 times more
+pub heard-repeat : (n : ℕ) → 64 ≤ n → heard Repeat n ≡ does (Again (n - 64))
+heard-repeat n h = heard-code Repeat n (omega (arith, h)) ∙ simp (le-ltb n 64 h)
+
+-- and any lower code ends it
+pub heard-low : (n : ℕ) → 32 ≤ n → n < 64 → heard Repeat n ≡ does Skip
+heard-low n h k = heard-code Repeat n h ∙ simp (lt-ltb n 64 k)

@@ -1,7 +1,7 @@
 -- Laws of the first value that is too large. Assumes nothing.
 use mathlib.Core.Path.{_≡_, refl, sym, ap, _∙_}
 use mathlib.Core.Bool.{Bool, true, false, cond}
-use mathlib.Core.List.{List, [], _∷_}
+use mathlib.Core.List.{List, [], _∷_, _++_}
 use Prim.Native.Nat.{ℕ, zero, suc, _+_, _≤_, _<_}
 use native.Mathlib.Nat.{add-suc, suc-add, add-zero, zero-lt-suc, le-of-suc-le-suc, not-suc-le-zero}
 use native.Mathlib.Numerals.{add-one}
@@ -53,3 +53,10 @@ none-large [] h = refl
 none-large (v ∷ vs) h =
     ap (λ (t : Bool). cond t (suc (firstLarge vs)) 0) (lt-ltb v 128 (h 0 (zero-lt-suc (length vs))))
     ∙ ap suc (none-large vs (λ i l. h (suc i) (omega (arith, l))))
+
+-- values, then values
+pub values-append : (us vs : List ℕ) → Values us → Values vs → Values (us ++ vs)
+values-append [] vs h k i l = k i l
+values-append (u ∷ us) vs h k zero l = h 0 (zero-lt-suc (length us))
+values-append (u ∷ us) vs h k (suc i) l =
+    values-append us vs (λ j m. h (suc j) (omega (arith, m))) k i (le-of-suc-le-suc l)
