@@ -13,6 +13,7 @@ mod receiver_record;
 mod receiver_scripts;
 mod screen_broken;
 mod screen_codes;
+mod screen_decided;
 mod screen_lines;
 mod screen_places;
 mod screen_random;
