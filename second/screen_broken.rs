@@ -173,8 +173,8 @@ const IN_RANGE: &[Change] = &[
 /// Broken states of each kind, states at the edge, states that no run reaches.
 pub fn broken() -> Script {
     let mut script = Script::trying("Broken screens, and states at the edge that are not broken.");
-    for (where_, index) in [("first", 0), ("last", CELLS - 1), ("middle", 500)] {
-        broken_cell(&mut script, where_, index);
+    for (which, index) in [("first", 0), ("last", CELLS - 1), ("middle", 500)] {
+        broken_cell(&mut script, which, index);
     }
     broken_elsewhere(&mut script);
     several_cells(&mut script);
@@ -184,13 +184,13 @@ pub fn broken() -> Script {
     script
 }
 
-fn broken_cell(script: &mut Script, where_: &str, index: usize) {
+fn broken_cell(script: &mut Script, which: &str, index: usize) {
     for (count, (what, change)) in CELL_CHANGES.iter().enumerate() {
         // Of the middle cell one change of each kind is enough.
-        if where_ == "middle" && count % 2 == 1 {
+        if which == "middle" && count % 2 == 1 {
             continue;
         }
-        script.comment(&format!("{where_} cell: {what}"));
+        script.comment(&format!("{which} cell: {what}"));
         let mut screen = used();
         change(&mut screen.cells[index]);
         every_call(script, &screen);
