@@ -25,7 +25,7 @@ pub(crate) fn is(word: &[u8], name: &[u8]) -> bool {
 }
 
 // What a lower-case hex digit is worth; 16 for any other character.
-fn digit(c: u8) -> u8 {
+pub(crate) fn digit(c: u8) -> u8 {
     match c {
         b'0'..=b'9' => c - b'0',
         b'a'..=b'f' => c - b'a' + 10,
@@ -108,7 +108,59 @@ pub(crate) fn numbers(words: &[u8], out: &mut [u8]) -> usize {
     at
 }
 
-const DIGITS: [u8; 16] = *b"0123456789abcdef";
+// What stands for `-` among numbers.
+pub(crate) const DASH: usize = 256;
+
+// Puts the numbers that a word names in `out`, with a separator between each two; each is at most its `most`, and `-`
+// counts as DASH. Whether there are as many as `out` holds, and nothing else.
+pub(crate) fn list(word: &[u8], separator: u8, most: &[usize], out: &mut [usize]) -> bool {
+    let n = word.len();
+    let mut at = 0;
+    let mut i = 0;
+    while i < most.len() && i < out.len() {
+        if at > n {
+            return false;
+        }
+        let e = find(word, at, n, separator);
+        let mut number = decimal(&word[at..e]);
+        if is(&word[at..e], b"-") {
+            number = DASH;
+        }
+        if number > most[i] {
+            return false;
+        }
+        out[i] = number;
+        at = e + 1;
+        i += 1;
+    }
+    at > n
+}
+
+// What stands after so many spaces; nothing where there are fewer.
+pub(crate) fn after(words: &[u8], spaces: usize) -> &[u8] {
+    let n = words.len();
+    let mut at = 0;
+    let mut i = 0;
+    while i < spaces {
+        let e = find(words, at, n, b' ');
+        if e == n {
+            return &words[n..];
+        }
+        at = e + 1;
+        i += 1;
+    }
+    &words[at..]
+}
+
+// The word after so many spaces.
+pub(crate) fn word(words: &[u8], spaces: usize) -> &[u8] {
+    let rest = after(words, spaces);
+    let n = rest.len();
+    let e = find(rest, 0, n, b' ');
+    first(rest, e)
+}
+
+pub(crate) const DIGITS: [u8; 16] = *b"0123456789abcdef";
 
 // Writes what stands before them, and bytes as a word, `-` for none; no answer has a word of more than MOST.
 pub(crate) fn write_bytes(before: &[u8], bytes: &[u8]) {

@@ -1,0 +1,120 @@
+-- `trial::words::list` is safe and ends. Assumes nothing.
+use Prim.Native.Nat.{_≤_, _-_}
+use mathlib.Core.Path.{_≡_}
+use lib.ListN.{length}
+use borrow.Author.Needs.{needs}
+use Rattle.trial.proofs.words.list.Statement.{statement}
+use Rattle.trial.proofs.words.list.Tie as tie
+
+abbrev Inv-loop : tie.InvT-loop
+Inv-loop word separator most out₀ n at₀ i₀ t10 out at i = (i ≤ length most) × (length out ≡ length out₀)
+
+abbrev μ-loop : tie.MeasureT-loop
+μ-loop word separator most out₀ n at₀ i₀ t10 out at i = length most - i
+
+loop-holds : tie.Need-loop-holds Inv-loop μ-loop
+loop-holds c = search needs
+
+same-length : tie.Need-same-length Inv-loop μ-loop
+same-length c = search needs
+
+returns : tie.Need-returns Inv-loop μ-loop
+returns c = search needs
+
+find-requires : tie.Need-find-requires Inv-loop μ-loop
+find-requires c κs = search needs
+
+sub-decimal : tie.Need-sub-decimal Inv-loop μ-loop
+sub-decimal c = search needs
+
+part-decimal-start : tie.Need-part-decimal-start Inv-loop μ-loop
+part-decimal-start c = search needs
+
+part-decimal-end : tie.Need-part-decimal-end Inv-loop μ-loop
+part-decimal-end c = search needs
+
+decimal-requires : tie.Need-decimal-requires Inv-loop μ-loop
+decimal-requires c κs = search needs
+
+sub-is : tie.Need-sub-is Inv-loop μ-loop
+sub-is c = search needs
+
+part-is-start : tie.Need-part-is-start Inv-loop μ-loop
+part-is-start c = search needs
+
+part-is-end : tie.Need-part-is-end Inv-loop μ-loop
+part-is-end c = search needs
+
+slice-aggregate-is : tie.Need-slice-aggregate-is Inv-loop μ-loop
+slice-aggregate-is c = search needs
+
+is-requires : tie.Need-is-requires Inv-loop μ-loop
+is-requires c κs = search needs
+
+mul-if4 : tie.Need-mul-if4 Inv-loop μ-loop
+mul-if4 c = search needs
+
+shared-slice-read-if4 : tie.Need-shared-slice-read-if4 Inv-loop μ-loop
+shared-slice-read-if4 c = search needs
+
+same-length-2 : tie.Need-same-length-2 Inv-loop μ-loop
+same-length-2 c = search needs
+
+returns-2 : tie.Need-returns-2 Inv-loop μ-loop
+returns-2 c = search needs
+
+mul-out : tie.Need-mul-out Inv-loop μ-loop
+mul-out c = search needs
+
+slice-write-out : tie.Need-slice-write-out Inv-loop μ-loop
+slice-write-out c = search needs
+
+add-at : tie.Need-add-at Inv-loop μ-loop
+add-at c = search needs
+
+add-i : tie.Need-add-i Inv-loop μ-loop
+add-i c = search needs
+
+loop-less : tie.Need-loop-less Inv-loop μ-loop
+loop-less c = search needs
+
+loop-again : tie.Need-loop-again Inv-loop μ-loop
+loop-again c = search needs
+
+same-length-3 : tie.Need-same-length-3 Inv-loop μ-loop
+same-length-3 c = search needs
+
+returns-3 : tie.Need-returns-3 Inv-loop μ-loop
+returns-3 c = search needs
+
+pub list-spec : {M : Type 1} → statement M
+list-spec =
+    tie.close
+    (tie.spec
+    Inv-loop
+    μ-loop
+    loop-holds
+    same-length
+    returns
+    find-requires
+    sub-decimal
+    part-decimal-start
+    part-decimal-end
+    decimal-requires
+    sub-is
+    part-is-start
+    part-is-end
+    slice-aggregate-is
+    is-requires
+    mul-if4
+    shared-slice-read-if4
+    same-length-2
+    returns-2
+    mul-out
+    slice-write-out
+    add-at
+    add-i
+    loop-less
+    loop-again
+    same-length-3
+    returns-3)

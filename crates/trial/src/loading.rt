@@ -1,0 +1,204 @@
+// The words that name a screen's state: its cells, and all the rest of it.
+use crate::parts::first;
+use crate::words::DASH;
+use crate::words::after;
+use crate::words::bytes as bytes_of;
+use crate::words::decimal;
+use crate::words::digit;
+use crate::words::is;
+use crate::words::list;
+use crate::words::word;
+use attributes::Attributes;
+use attributes::Cell;
+use attributes::Waiting;
+use bytes::scan::find;
+use cursor::Place;
+use pen::Kept;
+use pen::Last;
+use pen::Pen;
+use sequences::Sequence;
+
+// The largest that each number of a word may be.
+const CUR: [usize; 3] = [255, 255, 1];
+
+const ATTR: [usize; 6] = [255, 255, 255, DASH, 1, 1];
+
+const KEPT: [usize; 8] = [255, 255, 255, 255, 255, DASH, 1, 1];
+
+// What words name, where they name something.
+pub(crate) enum Given {
+    Nothing,
+    There(Pen),
+}
+
+enum GivenLast {
+    Nothing,
+    There(Last),
+}
+
+enum GivenSequence {
+    Nothing,
+    There(Sequence),
+}
+
+// Whether a word names the thousand cells: seven digits each, of which the last two are 0 or 1.
+pub(crate) fn are_cells(word: &[u8]) -> bool {
+    if word.len() != 7000 {
+        return false;
+    }
+    let mut i = 0;
+    while i < word.len() {
+        let d = digit(word[i]);
+        if d > 15 || i % 7 > 4 && d > 1 {
+            return false;
+        }
+        i += 1;
+    }
+    true
+}
+
+// The cell that seven digits name.
+fn cell_of(seven: &[u8]) -> Cell {
+    if seven.len() < 7 {
+        return attributes::blank();
+    }
+    Cell {
+        set: digit(seven[0]),
+        code: digit(seven[1]) % 16 * 16 + digit(seven[2]) % 16,
+        ink: digit(seven[3]),
+        ground: digit(seven[4]),
+        flash: digit(seven[5]) == 1,
+        inverse: digit(seven[6]) == 1,
+    }
+}
+
+// The cells that such a word names.
+pub(crate) fn cells_of(word: &[u8]) -> [Cell; 1000] {
+    let blank = attributes::blank();
+    let mut cells = [blank; 1000];
+    let mut i = 0;
+    while i < 1000 {
+        let at = 7 * i;
+        if at > word.len() {
+            return cells;
+        }
+        let cell = cell_of(&word[at..]);
+        cells[i] = cell;
+        i += 1;
+    }
+    cells
+}
+
+// `-`, or SET:CODE.
+fn last_of(word: &[u8]) -> GivenLast {
+    if is(word, b"-") {
+        return GivenLast::There(Last::Never);
+    }
+    let n = word.len();
+    let e = find(word, 0, n, b':');
+    let mut code = [0u8; 1];
+    if e < n && bytes_of(&word[e + 1..], &mut code) == 1 {
+        let set = decimal(first(word, e));
+        if set < 256 {
+            return GivenLast::There(Last::Character {
+                set: set as u8,
+                code: code[0],
+            });
+        }
+    }
+    GivenLast::Nothing
+}
+
+fn sequence_of(word: &[u8]) -> GivenSequence {
+    if is(word, b"-") {
+        return GivenSequence::There(Sequence::Free);
+    }
+    if is(word, b"esc") {
+        return GivenSequence::There(Sequence::Escape);
+    }
+    if is(word, b"esc2") {
+        return GivenSequence::There(Sequence::Long);
+    }
+    if is(word, b"csi") {
+        return GivenSequence::There(Sequence::Control);
+    }
+    if is(word, b"sep") {
+        return GivenSequence::There(Sequence::Separator);
+    }
+    if is(word, b"rep") {
+        return GivenSequence::There(Sequence::Repeat);
+    }
+    if is(word, b"ss2") {
+        return GivenSequence::There(Sequence::Single);
+    }
+    if is(word, b"us") {
+        return GivenSequence::There(Sequence::Address);
+    }
+    let mut code = [0u8; 1];
+    if word.len() == 5 && is(first(word, 3), b"us:") && bytes_of(&word[3..], &mut code) == 1 {
+        return GivenSequence::There(Sequence::Row(code[0]));
+    }
+    GivenSequence::Nothing
+}
+
+// The attributes of numbers that have passed the test of their word.
+fn attributes_of(
+    set: usize,
+    ink: usize,
+    ground: usize,
+    waiting: usize,
+    flash: usize,
+    inverse: usize,
+) -> Attributes {
+    let named = if waiting == DASH {
+        Waiting::Nothing
+    } else {
+        Waiting::Ground((waiting % 256) as u8)
+    };
+    Attributes {
+        set: (set % 256) as u8,
+        ink: (ink % 256) as u8,
+        ground: (ground % 256) as u8,
+        waiting: named,
+        flash: flash == 1,
+        inverse: inverse == 1,
+    }
+}
+
+fn place_of(row: usize, column: usize) -> Place {
+    Place {
+        row: (row % 256) as u8,
+        column: (column % 256) as u8,
+    }
+}
+
+// All of a state but its cells, which are the first of the words.
+pub(crate) fn pen_of(words: &[u8]) -> Given {
+    let mut cur = [0usize; 3];
+    let mut attr = [0usize; 6];
+    let mut kept = [0usize; 8];
+    let GivenLast::There(last) = last_of(word(words, 3)) else {
+        return Given::Nothing;
+    };
+    let GivenSequence::There(sequence) = sequence_of(after(words, 5)) else {
+        return Given::Nothing;
+    };
+    if list(word(words, 1), b',', &CUR, &mut cur)
+        && list(word(words, 2), b',', &ATTR, &mut attr)
+        && list(word(words, 4), b',', &KEPT, &mut kept)
+    {
+        let held = Kept {
+            place: place_of(kept[0], kept[1]),
+            attributes: attributes_of(kept[2], kept[3], kept[4], kept[5], kept[6], kept[7]),
+        };
+        return Given::There(Pen {
+            place: place_of(cur[0], cur[1]),
+            attributes: attributes_of(attr[0], attr[1], attr[2], attr[3], attr[4], attr[5]),
+            kept: held,
+            last,
+            sequence,
+            shown: cur[2] == 1,
+        });
+    }
+    Given::Nothing
+}

@@ -1,0 +1,185 @@
+// The commands of the screen: `scr fresh`, `scr byte HH`, `scr run VALUES`, `scr dump`, `scr cell ROW COLUMN` and
+// `scr load CELLS CUR ATTR LAST KEPT PEND`. loading.rt reads the words of a state, and showing.rt writes them.
+use crate::loading::Given;
+use crate::loading::are_cells;
+use crate::loading::cells_of;
+use crate::loading::pen_of;
+use crate::parts::first;
+use crate::showing::write_cell;
+use crate::showing::write_cells;
+use crate::showing::write_pen;
+use crate::words::NONE;
+use crate::words::bytes as bytes_of;
+use crate::words::is;
+use crate::words::list;
+use crate::words::word;
+use bytes::scan::find;
+use screen::Answer;
+use screen::Read;
+use screen::Screen;
+
+// As many values as a run may have.
+const LONGEST_RUN: usize = 4000;
+
+// Whether a line was a command of this family, and the screen after it.
+pub(crate) struct Obeyed {
+    pub(crate) known: bool,
+    pub(crate) screen: Screen,
+}
+
+// Answers a command of this family, from its second word on and up to the end of the line, or says that it is none.
+pub(crate) fn obey(command: &[u8], now: Screen) -> Obeyed {
+    if is(command, b"fresh") {
+        return put(Screen::fresh());
+    }
+    if is(command, b"dump") {
+        let cells = now.cells;
+        write_cells(cells);
+        return Obeyed {
+            known: true,
+            screen: now,
+        };
+    }
+    let n = command.len();
+    let e = find(command, 0, n, b' ');
+    if e < n {
+        return obey_words(first(command, e), &command[e + 1..], now);
+    }
+    Obeyed {
+        known: false,
+        screen: now,
+    }
+}
+
+// The commands with arguments.
+fn obey_words(name: &[u8], words: &[u8], now: Screen) -> Obeyed {
+    if is(name, b"byte") {
+        return take(words, now);
+    }
+    if is(name, b"run") {
+        return take_all(words, now);
+    }
+    if is(name, b"load") {
+        return load(words, now);
+    }
+    let known = is(name, b"cell") && read(words, now);
+    Obeyed { known, screen: now }
+}
+
+// A state that no call made.
+fn put(screen: Screen) -> Obeyed {
+    io::write_all(1, b"0");
+    write_pen(screen.pen);
+    Obeyed {
+        known: true,
+        screen,
+    }
+}
+
+// `scr byte HH`.
+fn take(word: &[u8], now: Screen) -> Obeyed {
+    let mut value = [0u8; 1];
+    if bytes_of(word, &mut value) != 1 {
+        return Obeyed {
+            known: false,
+            screen: now,
+        };
+    }
+    let done = now.step(value[0]);
+    let answer = done.answer;
+    let screen = done.screen;
+    match answer {
+        Answer::Taken => {
+            io::write_all(1, b"0");
+        }
+        Answer::TooLarge(_) => {
+            io::write_all(1, b"2");
+        }
+        Answer::Broken => {
+            io::write_all(1, b"5");
+        }
+    }
+    write_pen(screen.pen);
+    Obeyed {
+        known: true,
+        screen,
+    }
+}
+
+// `scr run VALUES`.
+fn take_all(word: &[u8], now: Screen) -> Obeyed {
+    let mut values = [0u8; LONGEST_RUN];
+    let n = bytes_of(word, &mut values);
+    if n == NONE {
+        return Obeyed {
+            known: false,
+            screen: now,
+        };
+    }
+    let done = now.run(first(&values, n));
+    let answer = done.answer;
+    let screen = done.screen;
+    match answer {
+        Answer::Taken => {
+            io::write_all(1, b"0 -");
+        }
+        Answer::TooLarge(place) => {
+            io::write_all(1, b"2 ");
+            io::print_decimal(1, place as u64);
+        }
+        Answer::Broken => {
+            io::write_all(1, b"5 -");
+        }
+    }
+    write_pen(screen.pen);
+    Obeyed {
+        known: true,
+        screen,
+    }
+}
+
+// `scr load CELLS CUR ATTR LAST KEPT PEND`, from its cells on.
+fn load(words: &[u8], now: Screen) -> Obeyed {
+    let cells = word(words, 0);
+    let given = pen_of(words);
+    match given {
+        Given::There(pen) => {
+            if are_cells(cells) {
+                let screen = Screen {
+                    cells: cells_of(cells),
+                    pen,
+                };
+                return put(screen);
+            }
+        }
+        Given::Nothing => {}
+    }
+    Obeyed {
+        known: false,
+        screen: now,
+    }
+}
+
+// `scr cell ROW COLUMN`, from its row on; false where there are no such words.
+fn read(words: &[u8], now: Screen) -> bool {
+    let mut place = [0usize; 2];
+    if list(words, b' ', &[255, 255], &mut place) {
+        let row = (place[0] % 256) as u8;
+        let column = (place[1] % 256) as u8;
+        let found = now.cell(row, column);
+        match found {
+            Read::There(cell) => {
+                io::write_all(1, b"0 ");
+                write_cell(cell);
+            }
+            Read::Off => {
+                io::write_all(1, b"0 off");
+            }
+            Read::Broken => {
+                io::write_all(1, b"5 -");
+            }
+        }
+        return true;
+    }
+    false
+}
