@@ -1,5 +1,6 @@
 // The words that name a screen's state: its cells, and all the rest of it.
 use crate::parts::first;
+use crate::showing::SEQUENCES;
 use crate::words::DASH;
 use crate::words::after;
 use crate::words::bytes as bytes_of;
@@ -7,6 +8,7 @@ use crate::words::decimal;
 use crate::words::digit;
 use crate::words::is;
 use crate::words::list;
+use crate::words::place_among;
 use crate::words::word;
 use attributes::Attributes;
 use attributes::Cell;
@@ -34,6 +36,11 @@ pub(crate) enum Given {
 enum GivenLast {
     Nothing,
     There(Last),
+}
+
+enum GivenKept {
+    Nothing,
+    There(Kept),
 }
 
 enum GivenSequence {
@@ -109,36 +116,22 @@ fn last_of(word: &[u8]) -> GivenLast {
     GivenLast::Nothing
 }
 
-fn sequence_of(word: &[u8]) -> GivenSequence {
-    if is(word, b"-") {
-        return GivenSequence::There(Sequence::Free);
-    }
-    if is(word, b"esc") {
-        return GivenSequence::There(Sequence::Escape);
-    }
-    if is(word, b"esc2") {
-        return GivenSequence::There(Sequence::Long);
-    }
-    if is(word, b"csi") {
-        return GivenSequence::There(Sequence::Control);
-    }
-    if is(word, b"sep") {
-        return GivenSequence::There(Sequence::Separator);
-    }
-    if is(word, b"rep") {
-        return GivenSequence::There(Sequence::Repeat);
-    }
-    if is(word, b"ss2") {
-        return GivenSequence::There(Sequence::Single);
-    }
-    if is(word, b"us") {
-        return GivenSequence::There(Sequence::Address);
-    }
+fn sequence_of(name: &[u8]) -> GivenSequence {
     let mut code = [0u8; 1];
-    if word.len() == 5 && is(first(word, 3), b"us:") && bytes_of(&word[3..], &mut code) == 1 {
+    if name.len() == 5 && is(first(name, 3), b"us:") && bytes_of(&name[3..], &mut code) == 1 {
         return GivenSequence::There(Sequence::Row(code[0]));
     }
-    GivenSequence::Nothing
+    match place_among(name, &SEQUENCES) {
+        0 => GivenSequence::There(Sequence::Free),
+        1 => GivenSequence::There(Sequence::Escape),
+        2 => GivenSequence::There(Sequence::Long),
+        3 => GivenSequence::There(Sequence::Control),
+        4 => GivenSequence::There(Sequence::Address),
+        5 => GivenSequence::There(Sequence::Repeat),
+        6 => GivenSequence::There(Sequence::Single),
+        7 => GivenSequence::There(Sequence::Separator),
+        _ => GivenSequence::Nothing,
+    }
 }
 
 // The attributes of numbers that have passed the test of their word.
@@ -172,29 +165,35 @@ fn place_of(row: usize, column: usize) -> Place {
     }
 }
 
+fn kept_of(word: &[u8]) -> GivenKept {
+    let mut n = [0usize; 8];
+    if list(word, b',', &KEPT, &mut n) {
+        return GivenKept::There(Kept {
+            place: place_of(n[0], n[1]),
+            attributes: attributes_of(n[2], n[3], n[4], n[5], n[6], n[7]),
+        });
+    }
+    GivenKept::Nothing
+}
+
 // All of a state but its cells, which are the first of the words.
 pub(crate) fn pen_of(words: &[u8]) -> Given {
     let mut cur = [0usize; 3];
     let mut attr = [0usize; 6];
-    let mut kept = [0usize; 8];
     let GivenLast::There(last) = last_of(word(words, 3)) else {
+        return Given::Nothing;
+    };
+    let GivenKept::There(kept) = kept_of(word(words, 4)) else {
         return Given::Nothing;
     };
     let GivenSequence::There(sequence) = sequence_of(after(words, 5)) else {
         return Given::Nothing;
     };
-    if list(word(words, 1), b',', &CUR, &mut cur)
-        && list(word(words, 2), b',', &ATTR, &mut attr)
-        && list(word(words, 4), b',', &KEPT, &mut kept)
-    {
-        let held = Kept {
-            place: place_of(kept[0], kept[1]),
-            attributes: attributes_of(kept[2], kept[3], kept[4], kept[5], kept[6], kept[7]),
-        };
+    if list(word(words, 1), b',', &CUR, &mut cur) && list(word(words, 2), b',', &ATTR, &mut attr) {
         return Given::There(Pen {
             place: place_of(cur[0], cur[1]),
             attributes: attributes_of(attr[0], attr[1], attr[2], attr[3], attr[4], attr[5]),
-            kept: held,
+            kept,
             last,
             sequence,
             shown: cur[2] == 1,

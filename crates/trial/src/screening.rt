@@ -8,7 +8,6 @@ use crate::parts::first;
 use crate::showing::write_cell;
 use crate::showing::write_cells;
 use crate::showing::write_pen;
-use crate::words::NONE;
 use crate::words::bytes as bytes_of;
 use crate::words::is;
 use crate::words::list;
@@ -30,7 +29,7 @@ pub(crate) struct Obeyed {
 // Answers a command of this family, from its second word on and up to the end of the line, or says that it is none.
 pub(crate) fn obey(command: &[u8], now: Screen) -> Obeyed {
     if is(command, b"fresh") {
-        return put(Screen::fresh());
+        return tell(Answer::Taken, false, Screen::fresh());
     }
     if is(command, b"dump") {
         let cells = now.cells;
@@ -66,9 +65,17 @@ fn obey_words(name: &[u8], words: &[u8], now: Screen) -> Obeyed {
     Obeyed { known, screen: now }
 }
 
-// A state that no call made.
-fn put(screen: Screen) -> Obeyed {
-    io::write_all(1, b"0");
+// What a call answered: its number, for a run the place of a value too large, and the state after it.
+fn tell(answer: Answer, is_run: bool, screen: Screen) -> Obeyed {
+    let number = match answer {
+        Answer::Taken => 0,
+        Answer::TooLarge(_) => 2,
+        Answer::Broken => 5,
+    };
+    io::print_decimal(1, number);
+    if is_run {
+        write_place(answer);
+    }
     write_pen(screen.pen);
     Obeyed {
         known: true,
@@ -76,33 +83,26 @@ fn put(screen: Screen) -> Obeyed {
     }
 }
 
+fn write_place(answer: Answer) {
+    if let Answer::TooLarge(place) = answer {
+        io::write_all(1, b" ");
+        io::print_decimal(1, place as u64);
+    } else {
+        io::write_all(1, b" -");
+    }
+}
+
 // `scr byte HH`.
 fn take(word: &[u8], now: Screen) -> Obeyed {
     let mut value = [0u8; 1];
-    if bytes_of(word, &mut value) != 1 {
-        return Obeyed {
-            known: false,
-            screen: now,
-        };
+    if bytes_of(word, &mut value) == 1 {
+        let done = now.step(value[0]);
+        let answer = done.answer;
+        return tell(answer, false, done.screen);
     }
-    let done = now.step(value[0]);
-    let answer = done.answer;
-    let screen = done.screen;
-    match answer {
-        Answer::Taken => {
-            io::write_all(1, b"0");
-        }
-        Answer::TooLarge(_) => {
-            io::write_all(1, b"2");
-        }
-        Answer::Broken => {
-            io::write_all(1, b"5");
-        }
-    }
-    write_pen(screen.pen);
     Obeyed {
-        known: true,
-        screen,
+        known: false,
+        screen: now,
     }
 }
 
@@ -110,31 +110,14 @@ fn take(word: &[u8], now: Screen) -> Obeyed {
 fn take_all(word: &[u8], now: Screen) -> Obeyed {
     let mut values = [0u8; LONGEST_RUN];
     let n = bytes_of(word, &mut values);
-    if n == NONE {
-        return Obeyed {
-            known: false,
-            screen: now,
-        };
+    if n <= LONGEST_RUN {
+        let done = now.run(first(&values, n));
+        let answer = done.answer;
+        return tell(answer, true, done.screen);
     }
-    let done = now.run(first(&values, n));
-    let answer = done.answer;
-    let screen = done.screen;
-    match answer {
-        Answer::Taken => {
-            io::write_all(1, b"0 -");
-        }
-        Answer::TooLarge(place) => {
-            io::write_all(1, b"2 ");
-            io::print_decimal(1, place as u64);
-        }
-        Answer::Broken => {
-            io::write_all(1, b"5 -");
-        }
-    }
-    write_pen(screen.pen);
     Obeyed {
-        known: true,
-        screen,
+        known: false,
+        screen: now,
     }
 }
 
@@ -149,7 +132,7 @@ fn load(words: &[u8], now: Screen) -> Obeyed {
                     cells: cells_of(cells),
                     pen,
                 };
-                return put(screen);
+                return tell(Answer::Taken, false, screen);
             }
         }
         Given::Nothing => {}

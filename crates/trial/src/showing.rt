@@ -1,6 +1,7 @@
 // A screen's state as words of an answer: its cells, and all the rest of it.
 use crate::parts::append;
 use crate::words::DIGITS;
+use crate::words::word;
 use crate::words::write_bytes;
 use attributes::Attributes;
 use attributes::Cell;
@@ -8,6 +9,9 @@ use attributes::Waiting;
 use pen::Last;
 use pen::Pen;
 use sequences::Sequence;
+
+// The names of unfinished sequences, but for the one that has a code.
+pub(crate) const SEQUENCES: [u8; 29] = *b"- esc esc2 csi us rep ss2 sep";
 
 // The seven digits of a cell.
 fn spelled(cell: Cell) -> [u8; 7] {
@@ -81,35 +85,22 @@ fn write_last(last: Last) {
 }
 
 fn write_sequence(sequence: Sequence) {
-    match sequence {
-        Sequence::Free => {
-            io::write_all(1, b" pend=-");
-        }
-        Sequence::Escape => {
-            io::write_all(1, b" pend=esc");
-        }
-        Sequence::Long => {
-            io::write_all(1, b" pend=esc2");
-        }
-        Sequence::Control => {
-            io::write_all(1, b" pend=csi");
-        }
-        Sequence::Separator => {
-            io::write_all(1, b" pend=sep");
-        }
-        Sequence::Repeat => {
-            io::write_all(1, b" pend=rep");
-        }
-        Sequence::Single => {
-            io::write_all(1, b" pend=ss2");
-        }
-        Sequence::Address => {
-            io::write_all(1, b" pend=us");
-        }
+    let place = match sequence {
+        Sequence::Free => 0,
+        Sequence::Escape => 1,
+        Sequence::Long => 2,
+        Sequence::Control => 3,
+        Sequence::Address => 4,
+        Sequence::Repeat => 5,
+        Sequence::Single => 6,
+        Sequence::Separator => 7,
         Sequence::Row(code) => {
             write_bytes(b" pend=us:", &[code]);
+            return;
         }
-    }
+    };
+    io::write_all(1, b" pend=");
+    io::write_all(1, word(&SEQUENCES, place));
 }
 
 // All of a state but its cells.

@@ -111,6 +111,14 @@ pub(crate) fn numbers(words: &[u8], out: &mut [u8]) -> usize {
 // What stands for `-` among numbers.
 pub(crate) const DASH: usize = 256;
 
+// The number that a word names, or DASH where it is `-`.
+fn decimal_or_dash(word: &[u8]) -> usize {
+    if is(word, b"-") {
+        return DASH;
+    }
+    decimal(word)
+}
+
 // Puts the numbers that a word names in `out`, with a separator between each two; each is at most its `most`, and `-`
 // counts as DASH. Whether there are as many as `out` holds, and nothing else.
 pub(crate) fn list(word: &[u8], separator: u8, most: &[usize], out: &mut [usize]) -> bool {
@@ -122,10 +130,7 @@ pub(crate) fn list(word: &[u8], separator: u8, most: &[usize], out: &mut [usize]
             return false;
         }
         let e = find(word, at, n, separator);
-        let mut number = decimal(&word[at..e]);
-        if is(&word[at..e], b"-") {
-            number = DASH;
-        }
+        let number = decimal_or_dash(&word[at..e]);
         if number > most[i] {
             return false;
         }
@@ -158,6 +163,18 @@ pub(crate) fn word(words: &[u8], spaces: usize) -> &[u8] {
     let n = rest.len();
     let e = find(rest, 0, n, b' ');
     first(rest, e)
+}
+
+// How many words stand before a name among names; as many as there are, or more, where it is none of them.
+pub(crate) fn place_among(name: &[u8], names: &[u8]) -> usize {
+    let mut i = 0;
+    while i < names.len() {
+        if is(name, word(names, i)) {
+            return i;
+        }
+        i += 1;
+    }
+    NONE
 }
 
 pub(crate) const DIGITS: [u8; 16] = *b"0123456789abcdef";

@@ -7,10 +7,10 @@ use Rattle.trial.proofs.words.list.Statement.{statement}
 use Rattle.trial.proofs.words.list.Tie as tie
 
 abbrev Inv-loop : tie.InvT-loop
-Inv-loop word separator most out₀ n at₀ i₀ t10 out at i = (i ≤ length most) × (length out ≡ length out₀)
+Inv-loop word separator most out₀ n at₀ i₀ out at i = (i ≤ length most) × (length out ≡ length out₀)
 
 abbrev μ-loop : tie.MeasureT-loop
-μ-loop word separator most out₀ n at₀ i₀ t10 out at i = length most - i
+μ-loop word separator most out₀ n at₀ i₀ out at i = length most - i
 
 loop-holds : tie.Need-loop-holds Inv-loop μ-loop
 loop-holds c = search needs
@@ -24,38 +24,23 @@ returns c = search needs
 find-requires : tie.Need-find-requires Inv-loop μ-loop
 find-requires c κs = search needs
 
-sub-decimal : tie.Need-sub-decimal Inv-loop μ-loop
-sub-decimal c = search needs
+sub-decimal-or-dash : tie.Need-sub-decimal-or-dash Inv-loop μ-loop
+sub-decimal-or-dash c = search needs
 
-part-decimal-start : tie.Need-part-decimal-start Inv-loop μ-loop
-part-decimal-start c = search needs
+part-decimal-or-dash-start : tie.Need-part-decimal-or-dash-start Inv-loop μ-loop
+part-decimal-or-dash-start c = search needs
 
-part-decimal-end : tie.Need-part-decimal-end Inv-loop μ-loop
-part-decimal-end c = search needs
+part-decimal-or-dash-end : tie.Need-part-decimal-or-dash-end Inv-loop μ-loop
+part-decimal-or-dash-end c = search needs
 
-decimal-requires : tie.Need-decimal-requires Inv-loop μ-loop
-decimal-requires c κs = search needs
+decimal-or-dash-requires : tie.Need-decimal-or-dash-requires Inv-loop μ-loop
+decimal-or-dash-requires c κs = search needs
 
-sub-is : tie.Need-sub-is Inv-loop μ-loop
-sub-is c = search needs
+mul-if3 : tie.Need-mul-if3 Inv-loop μ-loop
+mul-if3 c = search needs
 
-part-is-start : tie.Need-part-is-start Inv-loop μ-loop
-part-is-start c = search needs
-
-part-is-end : tie.Need-part-is-end Inv-loop μ-loop
-part-is-end c = search needs
-
-slice-aggregate-is : tie.Need-slice-aggregate-is Inv-loop μ-loop
-slice-aggregate-is c = search needs
-
-is-requires : tie.Need-is-requires Inv-loop μ-loop
-is-requires c κs = search needs
-
-mul-if4 : tie.Need-mul-if4 Inv-loop μ-loop
-mul-if4 c = search needs
-
-shared-slice-read-if4 : tie.Need-shared-slice-read-if4 Inv-loop μ-loop
-shared-slice-read-if4 c = search needs
+shared-slice-read-if3 : tie.Need-shared-slice-read-if3 Inv-loop μ-loop
+shared-slice-read-if3 c = search needs
 
 same-length-2 : tie.Need-same-length-2 Inv-loop μ-loop
 same-length-2 c = search needs
@@ -97,17 +82,12 @@ list-spec =
     same-length
     returns
     find-requires
-    sub-decimal
-    part-decimal-start
-    part-decimal-end
-    decimal-requires
-    sub-is
-    part-is-start
-    part-is-end
-    slice-aggregate-is
-    is-requires
-    mul-if4
-    shared-slice-read-if4
+    sub-decimal-or-dash
+    part-decimal-or-dash-start
+    part-decimal-or-dash-end
+    decimal-or-dash-requires
+    mul-if3
+    shared-slice-read-if3
     same-length-2
     returns-2
     mul-out
