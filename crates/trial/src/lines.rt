@@ -5,7 +5,9 @@ use crate::parts::append;
 use crate::parts::first;
 use crate::receiving;
 use crate::screening;
+use crate::words::after;
 use crate::words::is;
+use crate::words::word;
 use bytes::scan::find;
 use receiver::Receiver;
 use screen::Screen;
@@ -30,8 +32,8 @@ fn obey(mut at: At, line: &[u8]) -> At {
     let n = at.length;
     if n <= line.len() {
         let command = first(line, n);
-        if command.len() > 4 && is(first(command, 4), b"scr ") {
-            let obeyed = screening::obey(&command[4..], at.screen);
+        if is(word(command, 0), b"scr") {
+            let obeyed = screening::obey(after(command, 1), at.screen);
             if obeyed.known {
                 let screen = obeyed.screen;
                 at.screen = screen;

@@ -2,12 +2,13 @@
 use crate::parts::first;
 use crate::showing::SEQUENCES;
 use crate::words::DASH;
+use crate::words::NONE;
 use crate::words::after;
 use crate::words::bytes as bytes_of;
 use crate::words::decimal;
 use crate::words::digit;
 use crate::words::is;
-use crate::words::list;
+use crate::words::numbers;
 use crate::words::place_among;
 use crate::words::word;
 use attributes::Attributes;
@@ -20,12 +21,14 @@ use pen::Last;
 use pen::Pen;
 use sequences::Sequence;
 
-// The largest that each number of a word may be.
-const CUR: [usize; 3] = [255, 255, 1];
+// CUR and ATTR, and KEPT: the character that ends each number, and the largest that it may be.
+const NOW_ENDS: [u8; 9] = *b",, ,,,,, ";
 
-const ATTR: [usize; 6] = [255, 255, 255, DASH, 1, 1];
+const NOW_MOST: [usize; 9] = [255, 255, 1, 255, 255, 255, DASH, 1, 1];
 
-const KEPT: [usize; 8] = [255, 255, 255, 255, 255, DASH, 1, 1];
+const KEPT_ENDS: [u8; 8] = *b",,,,,,, ";
+
+const KEPT_MOST: [usize; 8] = [255, 255, 255, 255, 255, DASH, 1, 1];
 
 // What words name, where they name something.
 pub(crate) enum Given {
@@ -165,39 +168,39 @@ fn place_of(row: usize, column: usize) -> Place {
     }
 }
 
-fn kept_of(word: &[u8]) -> GivenKept {
+// KEPT, from which the words go on.
+fn kept_of(words: &[u8]) -> GivenKept {
     let mut n = [0usize; 8];
-    if list(word, b',', &KEPT, &mut n) {
-        return GivenKept::There(Kept {
-            place: place_of(n[0], n[1]),
-            attributes: attributes_of(n[2], n[3], n[4], n[5], n[6], n[7]),
-        });
+    if numbers(words, &KEPT_ENDS, &KEPT_MOST, &mut n) == NONE {
+        return GivenKept::Nothing;
     }
-    GivenKept::Nothing
+    GivenKept::There(Kept {
+        place: place_of(n[0], n[1]),
+        attributes: attributes_of(n[2], n[3], n[4], n[5], n[6], n[7]),
+    })
 }
 
-// All of a state but its cells, which are the first of the words.
+// CUR ATTR LAST KEPT PEND.
 pub(crate) fn pen_of(words: &[u8]) -> Given {
-    let mut cur = [0usize; 3];
-    let mut attr = [0usize; 6];
-    let GivenLast::There(last) = last_of(word(words, 3)) else {
+    let mut n = [0usize; 9];
+    if numbers(words, &NOW_ENDS, &NOW_MOST, &mut n) == NONE {
         return Given::Nothing;
-    };
-    let GivenKept::There(kept) = kept_of(word(words, 4)) else {
-        return Given::Nothing;
-    };
-    let GivenSequence::There(sequence) = sequence_of(after(words, 5)) else {
-        return Given::Nothing;
-    };
-    if list(word(words, 1), b',', &CUR, &mut cur) && list(word(words, 2), b',', &ATTR, &mut attr) {
-        return Given::There(Pen {
-            place: place_of(cur[0], cur[1]),
-            attributes: attributes_of(attr[0], attr[1], attr[2], attr[3], attr[4], attr[5]),
-            kept,
-            last,
-            sequence,
-            shown: cur[2] == 1,
-        });
     }
-    Given::Nothing
+    let GivenLast::There(last) = last_of(word(words, 2)) else {
+        return Given::Nothing;
+    };
+    let GivenKept::There(kept) = kept_of(after(words, 3)) else {
+        return Given::Nothing;
+    };
+    let GivenSequence::There(sequence) = sequence_of(after(words, 4)) else {
+        return Given::Nothing;
+    };
+    Given::There(Pen {
+        place: place_of(n[0], n[1]),
+        attributes: attributes_of(n[3], n[4], n[5], n[6], n[7], n[8]),
+        kept,
+        last,
+        sequence,
+        shown: n[2] == 1,
+    })
 }

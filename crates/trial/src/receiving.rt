@@ -106,26 +106,26 @@ fn put(state: Receiver) -> Obeyed {
 }
 
 // The state that `rx set` names, in range or not; its phase is 0, 1 or 2. SEEN is part of it in waiting alone.
-fn state(phase: u8, number: u8, count: u8, seen: u8, held: [u8; 17]) -> Receiver {
+fn state(phase: usize, number: usize, count: usize, seen: usize, held: [u8; 17]) -> Receiver {
     let named = match phase {
         0 => Phase::Off,
         1 => Phase::Collecting,
-        _ => Phase::Waiting(seen),
+        _ => Phase::Waiting((seen % 256) as u8),
     };
     Receiver {
         held: held,
-        count: count as usize,
-        number: number,
+        count: count,
+        number: (number % 256) as u8,
         phase: named,
     }
 }
 
 // `rx set PHASE NUMBER COUNT SEEN HELD`, from its phase on.
 fn set(words: &[u8], now: Receiver) -> Obeyed {
-    let mut given = [0u8; 4];
+    let mut given = [0usize; 4];
     let mut held = [0u8; 17];
-    let at = numbers(words, &mut given);
-    if at <= words.len() && given[0] <= 2 && bytes_of(&words[at..], &mut held) == 17 {
+    let at = numbers(words, b"    ", &[2, 255, 255, 255], &mut given);
+    if at <= words.len() && bytes_of(&words[at..], &mut held) == 17 {
         return put(state(given[0], given[1], given[2], given[3], held));
     }
     Obeyed {

@@ -8,11 +8,11 @@ use crate::parts::first;
 use crate::showing::write_cell;
 use crate::showing::write_cells;
 use crate::showing::write_pen;
+use crate::words::after;
 use crate::words::bytes as bytes_of;
-use crate::words::is;
-use crate::words::list;
+use crate::words::numbers;
+use crate::words::place_among;
 use crate::words::word;
-use bytes::scan::find;
 use screen::Answer;
 use screen::Read;
 use screen::Screen;
@@ -28,41 +28,35 @@ pub(crate) struct Obeyed {
 
 // Answers a command of this family, from its second word on and up to the end of the line, or says that it is none.
 pub(crate) fn obey(command: &[u8], now: Screen) -> Obeyed {
-    if is(command, b"fresh") {
-        return tell(Answer::Taken, false, Screen::fresh());
-    }
-    if is(command, b"dump") {
-        let cells = now.cells;
-        write_cells(cells);
-        return Obeyed {
-            known: true,
-            screen: now,
-        };
-    }
-    let n = command.len();
-    let e = find(command, 0, n, b' ');
-    if e < n {
-        return obey_words(first(command, e), &command[e + 1..], now);
-    }
-    Obeyed {
-        known: false,
-        screen: now,
+    match place_among(command, b"fresh dump") {
+        0 => tell(Answer::Taken, false, Screen::fresh()),
+        1 => {
+            let cells = now.cells;
+            write_cells(cells);
+            Obeyed {
+                known: true,
+                screen: now,
+            }
+        }
+        _ => obey_words(word(command, 0), after(command, 1), now),
     }
 }
 
 // The commands with arguments.
 fn obey_words(name: &[u8], words: &[u8], now: Screen) -> Obeyed {
-    if is(name, b"byte") {
-        return take(words, now);
+    match place_among(name, b"byte run load cell") {
+        0 => take(words, now),
+        1 => take_all(words, now),
+        2 => load(words, now),
+        3 => Obeyed {
+            known: read(words, now),
+            screen: now,
+        },
+        _ => Obeyed {
+            known: false,
+            screen: now,
+        },
     }
-    if is(name, b"run") {
-        return take_all(words, now);
-    }
-    if is(name, b"load") {
-        return load(words, now);
-    }
-    let known = is(name, b"cell") && read(words, now);
-    Obeyed { known, screen: now }
 }
 
 // What a call answered: its number, for a run the place of a value too large, and the state after it.
@@ -124,7 +118,7 @@ fn take_all(word: &[u8], now: Screen) -> Obeyed {
 // `scr load CELLS CUR ATTR LAST KEPT PEND`, from its cells on.
 fn load(words: &[u8], now: Screen) -> Obeyed {
     let cells = word(words, 0);
-    let given = pen_of(words);
+    let given = pen_of(after(words, 1));
     match given {
         Given::There(pen) => {
             if are_cells(cells) {
@@ -146,7 +140,7 @@ fn load(words: &[u8], now: Screen) -> Obeyed {
 // `scr cell ROW COLUMN`, from its row on; false where there are no such words.
 fn read(words: &[u8], now: Screen) -> bool {
     let mut place = [0usize; 2];
-    if list(words, b' ', &[255, 255], &mut place) {
+    if numbers(words, b"  ", &[255, 255], &mut place) == words.len() + 1 {
         let row = (place[0] % 256) as u8;
         let column = (place[1] % 256) as u8;
         let found = now.cell(row, column);

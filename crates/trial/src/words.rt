@@ -86,28 +86,6 @@ pub(crate) fn decimal(word: &[u8]) -> usize {
     number
 }
 
-// Puts the numbers that the first words name in `out`, as many as it holds: where the word after them begins, or NONE
-// where one of them names no number or no space ends it.
-pub(crate) fn numbers(words: &[u8], out: &mut [u8]) -> usize {
-    let n = words.len();
-    let mut at = 0;
-    let mut i = 0;
-    while i < out.len() {
-        let e = find(words, at, n, b' ');
-        if e == n {
-            return NONE;
-        }
-        let number = decimal(&words[at..e]);
-        if number > 255 {
-            return NONE;
-        }
-        out[i] = number as u8;
-        at = e + 1;
-        i += 1;
-    }
-    at
-}
-
 // What stands for `-` among numbers.
 pub(crate) const DASH: usize = 256;
 
@@ -119,26 +97,27 @@ fn decimal_or_dash(word: &[u8]) -> usize {
     decimal(word)
 }
 
-// Puts the numbers that a word names in `out`, with a separator between each two; each is at most its `most`, and `-`
-// counts as DASH. Whether there are as many as `out` holds, and nothing else.
-pub(crate) fn list(word: &[u8], separator: u8, most: &[usize], out: &mut [usize]) -> bool {
-    let n = word.len();
+// Puts the numbers that words name in `out`: each is at most its `most`, where `-` counts as DASH, and goes up to the
+// character that is its end, or to the end of the words. Where the rest begins, or NONE where one of them is no such
+// number.
+pub(crate) fn numbers(words: &[u8], ends: &[u8], most: &[usize], out: &mut [usize]) -> usize {
+    let n = words.len();
     let mut at = 0;
     let mut i = 0;
-    while i < most.len() && i < out.len() {
+    while i < most.len() && i < ends.len() && i < out.len() {
         if at > n {
-            return false;
+            return NONE;
         }
-        let e = find(word, at, n, separator);
-        let number = decimal_or_dash(&word[at..e]);
+        let e = find(words, at, n, ends[i]);
+        let number = decimal_or_dash(&words[at..e]);
         if number > most[i] {
-            return false;
+            return NONE;
         }
         out[i] = number;
         at = e + 1;
         i += 1;
     }
-    at > n
+    at
 }
 
 // What stands after so many spaces; nothing where there are fewer.
