@@ -32,22 +32,24 @@ fn obey(mut at: At, line: &[u8]) -> At {
     let n = at.length;
     if n <= line.len() {
         let command = first(line, n);
-        if is(word(command, 0), b"scr") {
-            let obeyed = screening::obey(after(command, 1), at.screen);
+        let name = word(command, 0);
+        let words = after(command, 1);
+        if is(name, b"scr") {
+            let obeyed = screening::obey(words, at.screen);
             if obeyed.known {
                 let screen = obeyed.screen;
                 at.screen = screen;
                 return at;
             }
-        } else if blocks::obey(command) {
-            return at;
-        } else {
-            let obeyed = receiving::obey(command, at.receiver);
+        } else if is(name, b"rx") {
+            let obeyed = receiving::obey(words, at.receiver);
             if obeyed.known {
                 let receiver = obeyed.receiver;
                 at.receiver = receiver;
                 return at;
             }
+        } else if blocks::obey(name, words) {
+            return at;
         }
     }
     io::write_all(1, b"? ");
