@@ -21,11 +21,13 @@ use pen::Last;
 use pen::Pen;
 use sequences::Sequence;
 
-// CUR and ATTR, and KEPT: the character that ends each number, and the largest that it may be.
+// The character that ends each number of CUR and ATTR.
 const NOW_ENDS: [u8; 9] = *b",, ,,,,, ";
 
+// The largest that it may be.
 const NOW_MOST: [usize; 9] = [255, 255, 1, 255, 255, 255, DASH, 1, 1];
 
+// The same of KEPT.
 const KEPT_ENDS: [u8; 8] = *b",,,,,,, ";
 
 const KEPT_MOST: [usize; 8] = [255, 255, 255, 255, 255, DASH, 1, 1];

@@ -1,9 +1,6 @@
 // Parts of lent memory: the first bytes of it, or all of them where it has fewer, so that a caller has no length to
 // prove.
 
-// More than any memory has.
-pub(crate) const FULL: usize = usize::MAX;
-
 pub(crate) fn first(s: &[u8], n: usize) -> &[u8] {
     if n < s.len() {
         return &s[..n];
@@ -31,6 +28,9 @@ pub(crate) fn copy(from: &[u8], to: &mut [u8]) -> usize {
     }
     i
 }
+
+// How much is used where something did not fit: more than any memory has.
+pub(crate) const FULL: usize = usize::MAX;
 
 // Adds what fits of `from` after the first `used` bytes of `to`: how many are used then, or FULL where it did not fit.
 pub(crate) fn append(from: &[u8], to: &mut [u8], used: usize) -> usize {

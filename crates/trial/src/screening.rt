@@ -10,7 +10,7 @@ use crate::showing::write_cells;
 use crate::showing::write_pen;
 use crate::words::after;
 use crate::words::bytes as bytes_of;
-use crate::words::numbers;
+use crate::words::decimal;
 use crate::words::place_among;
 use crate::words::word;
 use screen::Answer;
@@ -139,24 +139,23 @@ fn load(words: &[u8], now: Screen) -> Obeyed {
 
 // `scr cell ROW COLUMN`, from its row on; false where there are no such words.
 fn read(words: &[u8], now: Screen) -> bool {
-    let mut place = [0usize; 2];
-    if numbers(words, b"  ", &[255, 255], &mut place) == words.len() + 1 {
-        let row = (place[0] % 256) as u8;
-        let column = (place[1] % 256) as u8;
-        let found = now.cell(row, column);
-        match found {
-            Read::There(cell) => {
-                io::write_all(1, b"0 ");
-                write_cell(cell);
-            }
-            Read::Off => {
-                io::write_all(1, b"0 off");
-            }
-            Read::Broken => {
-                io::write_all(1, b"5 -");
-            }
-        }
-        return true;
+    let row = decimal(word(words, 0));
+    let column = decimal(after(words, 1));
+    if row > 255 || column > 255 {
+        return false;
     }
-    false
+    let found = now.cell(row as u8, column as u8);
+    match found {
+        Read::There(cell) => {
+            io::write_all(1, b"0 ");
+            write_cell(cell);
+        }
+        Read::Off => {
+            io::write_all(1, b"0 off");
+        }
+        Read::Broken => {
+            io::write_all(1, b"5 -");
+        }
+    }
+    true
 }
