@@ -5,3 +5,6 @@ pub const LONGEST_LINE: usize = 9_000;
 
 /// The most values, bytes of a block, or bytes of room in a command on blocks.
 pub const MOST_BYTES: usize = 64;
+
+/// The most values in one run over the screen.
+pub const MOST_VALUES: usize = 4_000;

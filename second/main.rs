@@ -11,6 +11,13 @@ mod reading;
 mod receiver;
 mod receiver_commands;
 mod receiver_state;
+mod screen;
+mod screen_codes;
+mod screen_commands;
+mod screen_ranges;
+mod screen_reading;
+mod screen_state;
+mod screen_writing;
 mod trial;
 mod writing;
 

@@ -39,7 +39,8 @@ fn byte(digits: &[u8]) -> Option<u8> {
     }
 }
 
-fn digit(character: u8) -> Option<u8> {
+/// The number that one lower-case hex digit writes.
+pub fn digit(character: u8) -> Option<u8> {
     match character {
         b'0'..=b'9' => Some(character - b'0'),
         b'a'..=b'f' => Some(character - b'a' + 10),

@@ -11,6 +11,19 @@ mod receiver_broken;
 mod receiver_lines;
 mod receiver_record;
 mod receiver_scripts;
+mod screen_broken;
+mod screen_codes;
+mod screen_decided;
+mod screen_lines;
+mod screen_places;
+mod screen_random;
+mod screen_repeats;
+mod screen_rules;
+mod screen_runs;
+mod screen_scripts;
+mod screen_sequences;
+mod screen_state;
+mod screen_writing;
 mod script;
 mod writing;
 mod xorshift;
@@ -26,7 +39,7 @@ use script::Script;
 type Stored = (&'static str, fn() -> Script);
 
 /// Every stored script. A new family of commands adds its own here.
-const STORED: [Stored; 13] = [
+const STORED: [Stored; 22] = [
     ("cards", block_scripts::cards),
     ("making", block_scripts::making),
     ("lengths", block_scripts::lengths),
@@ -40,6 +53,15 @@ const STORED: [Stored; 13] = [
     ("rx-broken", receiver_broken::broken),
     ("rx-line", receiver_record::line),
     ("rx-lines", receiver_lines::lines),
+    ("scr-cards", screen_scripts::cards),
+    ("scr-rules", screen_rules::rules),
+    ("scr-codes", screen_sequences::codes),
+    ("scr-places", screen_places::places),
+    ("scr-repeats", screen_repeats::repeats),
+    ("scr-broken", screen_broken::broken),
+    ("scr-runs", screen_runs::runs),
+    ("scr-random", screen_random::random),
+    ("scr-lines", screen_lines::lines),
 ];
 
 fn main() -> ExitCode {

@@ -6,6 +6,7 @@ use crate::block_commands::BlockCommands;
 use crate::limits::LONGEST_LINE;
 use crate::reading;
 use crate::receiver_commands::ReceiverCommands;
+use crate::screen_commands::ScreenCommands;
 
 /// A family of commands, with the state that they act on.
 pub trait Family {
@@ -16,7 +17,11 @@ pub trait Family {
 
 /// Every family in its start state. A new family is a file and a line here.
 fn start_state() -> Vec<Box<dyn Family>> {
-    vec![Box::new(BlockCommands), Box::new(ReceiverCommands::start())]
+    vec![
+        Box::new(BlockCommands),
+        Box::new(ReceiverCommands::start()),
+        Box::new(ScreenCommands::start()),
+    ]
 }
 
 /// Runs one script from the start state.

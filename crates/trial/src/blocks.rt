@@ -4,28 +4,21 @@ use crate::parts::first;
 use crate::parts::first_mut;
 use crate::words::MOST;
 use crate::words::NONE;
+use crate::words::after;
 use crate::words::bytes as bytes_of;
 use crate::words::decimal;
-use crate::words::is;
+use crate::words::place_among;
+use crate::words::word;
 use crate::words::write_bytes;
-use bytes::scan::find;
 use maker::Made;
 
 // Answers a command of this family, up to the end of the line, or says that the line is none.
-pub(crate) fn obey(line: &[u8]) -> bool {
-    let n = line.len();
-    let e = find(line, 0, n, b' ');
-    if e == n {
-        return false;
+pub(crate) fn obey(name: &[u8], words: &[u8]) -> bool {
+    match place_among(name, b"make judge") {
+        0 => make(words),
+        1 => judge(words),
+        _ => false,
     }
-    let name = first(line, e);
-    if is(name, b"make") {
-        return make(&line[e + 1..]);
-    }
-    if is(name, b"judge") {
-        return judge(&line[e + 1..]);
-    }
-    false
 }
 
 // What the maker answered: its number, and the place of a value too large.
@@ -49,14 +42,9 @@ fn write_made(made: Made) {
 
 // `make VALUES ROOM`: NUMBER PLACE OUTPUT. The output's bytes are ee before the call, so that untouched ones show.
 fn make(words: &[u8]) -> bool {
-    let n = words.len();
-    let e = find(words, 0, n, b' ');
-    if e == n {
-        return false;
-    }
     let mut given = [0u8; MOST];
-    let count = bytes_of(first(words, e), &mut given);
-    let room = decimal(&words[e + 1..]);
+    let count = bytes_of(word(words, 0), &mut given);
+    let room = decimal(after(words, 1));
     if count == NONE || room > MOST {
         return false;
     }

@@ -6,16 +6,23 @@
 // words.rt      the bytes and numbers that words name
 // parts.rt      parts of lent memory
 // blocks.rt     the commands of the block code
-// receiving.rt  the commands of the line receiver; each further family of commands is such a file
+// receiving.rt  the commands of the line receiver
+// screening.rt  the commands of the screen; each further family of commands is such a file
+// loading.rt    the words that name a screen's state
+// showing.rt    a screen's state as words
 mod blocks;
 mod lines;
+mod loading;
 mod parts;
 mod receiving;
+mod screening;
+mod showing;
 mod words;
 
 use lines::At;
 use lines::LONGEST;
 use receiver::Receiver;
+use screen::Screen;
 
 // Runs one script to its end, or until an answer cannot be written. `name` is for error lines.
 fn run(fd: i32, name: &[u8]) {
@@ -25,6 +32,7 @@ fn run(fd: i32, name: &[u8]) {
         number: 1,
         stopped: false,
         receiver: Receiver::new(),
+        screen: Screen::fresh(),
     };
     let mut portion = io::large_buffer();
     let mut turns = u64::MAX;

@@ -28,3 +28,18 @@ pub(crate) fn copy(from: &[u8], to: &mut [u8]) -> usize {
     }
     i
 }
+
+// How much is used where something did not fit: more than any memory has.
+pub(crate) const FULL: usize = usize::MAX;
+
+// Adds what fits of `from` after the first `used` bytes of `to`: how many are used then, or FULL where it did not fit.
+pub(crate) fn append(from: &[u8], to: &mut [u8], used: usize) -> usize {
+    if used > to.len() {
+        return FULL;
+    }
+    copy(from, &mut to[used..]);
+    if from.len() > to.len() - used {
+        return FULL;
+    }
+    used + from.len()
+}

@@ -2,9 +2,12 @@
 // `rx set PHASE NUMBER COUNT SEEN HELD`. Their answers are all of one form:
 // NUMBER passed=VALUES modem=BYTES state=PHASE,NUMBER,COUNT,SEEN,HELD.
 use crate::parts::first;
+use crate::words::after;
 use crate::words::bytes as bytes_of;
 use crate::words::is;
 use crate::words::numbers;
+use crate::words::place_among;
+use crate::words::word;
 use crate::words::write_bytes;
 use receiver::Phase;
 use receiver::Receiver;
@@ -16,38 +19,25 @@ pub(crate) struct Obeyed {
     pub(crate) receiver: Receiver,
 }
 
-// Answers a command of this family, up to the end of the line, or says that the line is none. A command of more than
-// two words has ten characters or more, and the others have fewer.
-pub(crate) fn obey(line: &[u8], now: Receiver) -> Obeyed {
-    if line.len() < 10 {
-        return host(line, now);
-    }
-    if is(first(line, 7), b"rx set ") {
-        return set(&line[7..], now);
-    }
-    let mut byte = [0u8; 1];
-    if is(first(line, 8), b"rx byte ") && bytes_of(&line[8..], &mut byte) == 1 {
-        return answer(now.step(byte[0]));
-    }
-    Obeyed {
-        known: false,
-        receiver: now,
+// Answers a command of this family, from its second word on and up to the end of the line, or says that it is none.
+pub(crate) fn obey(command: &[u8], now: Receiver) -> Obeyed {
+    match place_among(command, b"new on off ask") {
+        0 => put(Receiver::new()),
+        1 => answer(now.switch_on()),
+        2 => answer(now.switch_off()),
+        3 => answer(now.ask_again()),
+        _ => obey_words(word(command, 0), after(command, 1), now),
     }
 }
 
-// The commands without arguments: a new receiver, and the calls of the host.
-fn host(line: &[u8], now: Receiver) -> Obeyed {
-    if is(line, b"rx new") {
-        return put(Receiver::new());
+// The commands with arguments.
+fn obey_words(name: &[u8], words: &[u8], now: Receiver) -> Obeyed {
+    if is(name, b"set") {
+        return set(words, now);
     }
-    if is(line, b"rx on") {
-        return answer(now.switch_on());
-    }
-    if is(line, b"rx off") {
-        return answer(now.switch_off());
-    }
-    if is(line, b"rx ask") {
-        return answer(now.ask_again());
+    let mut byte = [0u8; 1];
+    if is(name, b"byte") && bytes_of(words, &mut byte) == 1 {
+        return answer(now.step(byte[0]));
     }
     Obeyed {
         known: false,
@@ -106,26 +96,26 @@ fn put(state: Receiver) -> Obeyed {
 }
 
 // The state that `rx set` names, in range or not; its phase is 0, 1 or 2. SEEN is part of it in waiting alone.
-fn state(phase: u8, number: u8, count: u8, seen: u8, held: [u8; 17]) -> Receiver {
+fn state(phase: usize, number: usize, count: usize, seen: usize, held: [u8; 17]) -> Receiver {
     let named = match phase {
         0 => Phase::Off,
         1 => Phase::Collecting,
-        _ => Phase::Waiting(seen),
+        _ => Phase::Waiting((seen % 256) as u8),
     };
     Receiver {
         held: held,
-        count: count as usize,
-        number: number,
+        count: count,
+        number: (number % 256) as u8,
         phase: named,
     }
 }
 
 // `rx set PHASE NUMBER COUNT SEEN HELD`, from its phase on.
 fn set(words: &[u8], now: Receiver) -> Obeyed {
-    let mut given = [0u8; 4];
+    let mut given = [0usize; 4];
     let mut held = [0u8; 17];
-    let at = numbers(words, &mut given);
-    if at <= words.len() && given[0] <= 2 && bytes_of(&words[at..], &mut held) == 17 {
+    let at = numbers(words, b"    ", &[2, 255, 255, 255], &mut given);
+    if at <= words.len() && bytes_of(&words[at..], &mut held) == 17 {
         return put(state(given[0], given[1], given[2], given[3], held));
     }
     Obeyed {

@@ -25,7 +25,7 @@ pub(crate) fn is(word: &[u8], name: &[u8]) -> bool {
 }
 
 // What a lower-case hex digit is worth; 16 for any other character.
-fn digit(c: u8) -> u8 {
+pub(crate) fn digit(c: u8) -> u8 {
     match c {
         b'0'..=b'9' => c - b'0',
         b'a'..=b'f' => c - b'a' + 10,
@@ -86,29 +86,77 @@ pub(crate) fn decimal(word: &[u8]) -> usize {
     number
 }
 
-// Puts the numbers that the first words name in `out`, as many as it holds: where the word after them begins, or NONE
-// where one of them names no number or no space ends it.
-pub(crate) fn numbers(words: &[u8], out: &mut [u8]) -> usize {
+// What stands for `-` among numbers.
+pub(crate) const DASH: usize = 256;
+
+// The number that a word names, or DASH where it is `-`.
+fn decimal_or_dash(word: &[u8]) -> usize {
+    if is(word, b"-") {
+        return DASH;
+    }
+    decimal(word)
+}
+
+// Puts the numbers that words name in `out`: each is at most its `most`, where `-` counts as DASH, and goes up to the
+// character that is its end, or to the end of the words. Where the rest begins, or NONE where one of them is no such
+// number.
+pub(crate) fn numbers(words: &[u8], ends: &[u8], most: &[usize], out: &mut [usize]) -> usize {
     let n = words.len();
     let mut at = 0;
     let mut i = 0;
-    while i < out.len() {
-        let e = find(words, at, n, b' ');
-        if e == n {
+    while i < most.len() && i < ends.len() && i < out.len() {
+        if at > n {
             return NONE;
         }
-        let number = decimal(&words[at..e]);
-        if number > 255 {
+        let e = find(words, at, n, ends[i]);
+        let number = decimal_or_dash(&words[at..e]);
+        if number > most[i] {
             return NONE;
         }
-        out[i] = number as u8;
+        out[i] = number;
         at = e + 1;
         i += 1;
     }
     at
 }
 
-const DIGITS: [u8; 16] = *b"0123456789abcdef";
+// What stands after so many spaces; nothing where there are fewer.
+pub(crate) fn after(words: &[u8], spaces: usize) -> &[u8] {
+    let n = words.len();
+    let mut at = 0;
+    let mut i = 0;
+    while i < spaces {
+        let e = find(words, at, n, b' ');
+        if e == n {
+            return &words[n..];
+        }
+        at = e + 1;
+        i += 1;
+    }
+    &words[at..]
+}
+
+// The word after so many spaces.
+pub(crate) fn word(words: &[u8], spaces: usize) -> &[u8] {
+    let rest = after(words, spaces);
+    let n = rest.len();
+    let e = find(rest, 0, n, b' ');
+    first(rest, e)
+}
+
+// How many words stand before a name among names; as many as there are, or more, where it is none of them.
+pub(crate) fn place_among(name: &[u8], names: &[u8]) -> usize {
+    let mut i = 0;
+    while i < names.len() {
+        if is(name, word(names, i)) {
+            return i;
+        }
+        i += 1;
+    }
+    NONE
+}
+
+pub(crate) const DIGITS: [u8; 16] = *b"0123456789abcdef";
 
 // Writes what stands before them, and bytes as a word, `-` for none; no answer has a word of more than MOST.
 pub(crate) fn write_bytes(before: &[u8], bytes: &[u8]) {

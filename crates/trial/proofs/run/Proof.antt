@@ -15,6 +15,9 @@ abbrev μ-loop : tie.MeasureT-loop
 new-requires : tie.Need-new-requires Inv-loop μ-loop
 new-requires c κs = search needs
 
+fresh-requires : tie.Need-fresh-requires Inv-loop μ-loop
+fresh-requires c κs = search needs
+
 large-buffer-requires : tie.Need-large-buffer-requires Inv-loop μ-loop
 large-buffer-requires c κs = search needs
 
@@ -97,6 +100,7 @@ run-spec =
     Inv-loop
     μ-loop
     new-requires
+    fresh-requires
     large-buffer-requires
     loop-holds
     slice-aggregate-read
