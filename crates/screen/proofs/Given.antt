@@ -1,13 +1,15 @@
 -- The numbers given, and a piece as single steps. Assumes nothing.
-use mathlib.Core.Path.{_≡_, refl, sym, ap, _∙_}
+use mathlib.Core.Path.{_≡_, refl, sym, ap, _∙_, subst}
 use mathlib.Core.Bool.{Bool, true, false, cond, not}
 use mathlib.Core.List.{List, [], _∷_, _++_}
+use mathlib.Core.Logic.{⊎-elim}
 use Prim.Native.Nat.{ℕ, suc, _≤_, _<_}
 use native.Mathlib.Omega.{arith}
 use native.Mathlib.Nat.{zero-lt-suc}
 use lib.Dec.{ltb, eqb}
 use lib.ListN.{length}
 use borrow.Author.Tests.{lt-ltb, le-ltb}
+use Rattle.laws.proofs.Computed.{apart}
 use Rattle.numbers.specs.Numbers.{Told, numberOf}
 use Rattle.values.specs.Large.{Values, firstLarge}
 use Rattle.values.proofs.Found.{none-large, values-append}
@@ -16,9 +18,11 @@ use Rattle.screen.specs.declared.Answer.{Answer}
 use Rattle.screen.specs.declared.Answer.the-variants.{Taken, TooLarge, Broken}
 use Rattle.screen.specs.declared.Stepped.{Stepped}
 use Rattle.screen.specs.declared.Ran.{Ran}
+use Rattle.screen.specs.declared.Read.the-variants.{Broken as Unread}
+use Rattle.screen.specs.declared.Cursor.the-variants.{Broken as Lost}
 use Rattle.screen.specs.Screens.{advanced, advancedBy}
 use Rattle.screen.specs.Ranges.{inRange, InScreen}
-use Rattle.screen.specs.Calls.{told, stepsTo, stepped, runsTo, ran, runTold}
+use Rattle.screen.specs.Calls.{told, stepsTo, stepped, runsTo, ran, runTold, read, pointed}
 use Rattle.screen.specs.Claims.{singly}
 use Rattle.screen.proofs.Stays.{screen-true, advanced-in}
 use Rattle.screen.proofs.Steps.{by-append}
@@ -26,30 +30,52 @@ use Rattle.screen.proofs.Answers.{ran-taken}
 
 -- ---- numbers
 
+-- what a call tells: whether the state is in range, whether a value is too large, and its place
+abbrev tells : Bool → Bool → ℕ → Told
+tells t u k =
+    let n = numberOf (record { wrongLength = false; brokenState = not t; tooLarge = u; noRoom = false; repeat = false }) in
+    record { number = n; named = cond (eqb n 2) (k ∷ []) [] }
+
 -- what a run tells comes of its conditions
-told-by : (t u : Bool) (s : Screen) (vs : List ℕ) (x : Screen)
-    → told (cond t (cond u (runsTo s (TooLarge (firstLarge vs))) (runsTo x Taken)) (runsTo s Broken) .answer)
-    ≡ record {
-      number = numberOf (record { wrongLength = false; brokenState = not t; tooLarge = u; noRoom = false; repeat = false });
-      named =
-          cond
-          (eqb
-          (numberOf (record { wrongLength = false; brokenState = not t; tooLarge = u; noRoom = false; repeat = false })) 2)
-          (firstLarge vs ∷ []) [];
-    }
-told-by true true s vs x = refl
-told-by true false s vs x = refl
-told-by false u s vs x = refl
+told-by : (t u : Bool) (s x : Screen) (k : ℕ)
+    → told (cond t (cond u (runsTo s (TooLarge k)) (runsTo x Taken)) (runsTo s Broken) .answer) ≡ tells t u k
+told-by true true s x k = refl
+told-by true false s x k = refl
+told-by false u s x k = refl
 
 pub run-told : (s : Screen) (vs : List ℕ) → told (ran s vs .answer) ≡ runTold s vs
 unfolding ran
-run-told s vs = told-by (inRange s) (ltb (firstLarge vs) (length vs)) s vs (advancedBy s vs)
+run-told s vs = told-by (inRange s) (ltb (firstLarge vs) (length vs)) s (advancedBy s vs) (firstLarge vs)
+
+large-told : (t : Bool) (s : Screen) → told (cond t (stepsTo s (TooLarge 0)) (stepsTo s Broken) .answer) ≡ tells t true 0
+large-told true s = refl
+large-told false s = refl
+
+small-told : (t : Bool) (s x : Screen) → told (cond t (stepsTo x Taken) (stepsTo s Broken) .answer) ≡ tells t false 1
+small-told true s x = refl
+small-told false s x = refl
+
+-- a step tells what the run over its one value does
+pub step-told : (s : Screen) (b : ℕ) → told (stepped s b .answer) ≡ runTold s (b ∷ [])
+unfolding stepped firstLarge
+step-told s b =
+    ⊎-elim (λ (h : 127 < b). simp (lt-ltb 127 b h, le-ltb b 128 h) (large-told (inRange s) s))
+    (λ (h : b ≤ 127). simp (le-ltb 127 b h, lt-ltb b 128 (omega (arith, h))) (small-told (inRange s) s (advanced s b)))
+    (apart 127 b)
 
 -- ---- refusals
 
 pub step-broken : (s : Screen) (b : ℕ) → inRange s ≡ false → stepped s b ≡ stepsTo s Broken
 unfolding stepped
 step-broken s b e = simp e
+
+pub reads-broken : (s : Screen) → inRange s ≡ false → ((r c : ℕ) → read s r c ≡ Unread) × (pointed s ≡ Lost)
+unfolding read pointed
+reads-broken s e = (λ r c. simp e, simp e)
+
+pub step-large : (s : Screen) (b : ℕ) → inRange s ≡ true → 127 < b → stepped s b ≡ stepsTo s (TooLarge 0)
+unfolding stepped
+step-large s b e h = simp (e, lt-ltb 127 b h)
 
 pub run-broken : (s : Screen) (vs : List ℕ) → inRange s ≡ false → ran s vs ≡ runsTo s Broken
 unfolding ran
@@ -60,6 +86,10 @@ run-broken s vs e = simp e
 pub step-taken : (s : Screen) (b : ℕ) → inRange s ≡ true → b ≤ 127 → stepped s b ≡ stepsTo (advanced s b) Taken
 unfolding stepped
 step-taken s b e h = simp (e, le-ltb 127 b h)
+
+pub stepped-in : (s : Screen) → InScreen s → (b : ℕ) → b ≤ 127 → InScreen (stepped s b .screen)
+stepped-in s h b l =
+    subst InScreen (sym (ap (λ (a : Stepped). a .screen) (step-taken s b (screen-true h) l))) (advanced-in b l h)
 
 pub run-taken : (s : Screen) (vs : List ℕ) → inRange s ≡ true → Values vs → ran s vs ≡ runsTo (advancedBy s vs) Taken
 run-taken s vs e h = sym (ran-taken s vs e (omega (arith, none-large vs h)))

@@ -6,6 +6,8 @@ use Prim.Native.Nat.{ℕ, zero, suc, _-_, _≤_}
 use native.Mathlib.Omega.{arith}
 use lib.Dec.{lit≤}
 use lib.ListN.{replicate}
+use Rattle.attributes.specs.declared.Waiting.the-variants.{Ground}
+use Rattle.attributes.specs.Attributing.{grounds}
 use Rattle.sequences.specs.declared.Sequence.{Sequence}
 use Rattle.sequences.specs.declared.Sequence.the-variants.{Free, Address, Row}
 use Rattle.sequences.specs.declared.Heard.{Heard}
@@ -18,8 +20,10 @@ use Rattle.pen.specs.declared.Asked.the-variants.{Nothing, Blank, Put}
 use Rattle.pen.specs.declared.Plan.{Plan}
 use Rattle.pen.specs.Pens.{withSequence}
 use Rattle.pen.specs.Obeying.{keeps, obeyed}
-use Rattle.pen.specs.Planning.{planned, afterTimes, finished, penAfter}
+use Rattle.pen.specs.Planning.{ordered, planned, afterTimes, finished, penAfter}
+use Rattle.pen.specs.Grounds.{fate, outcome}
 use Rattle.pen.proofs.Plans.{plan-heard}
+use Rattle.pen.proofs.Fates.{value-fate}
 use Rattle.pen.proofs.Row0.{kept-stays, entered, enters, lf-back}
 use Rattle.screen.specs.declared.Screen.{Screen}
 use Rattle.screen.specs.Screens.{withPen, written, writtenTimes, applied, advanced, advancedBy}
@@ -47,6 +51,11 @@ applied-pen s p (Put a d n) = times-pen (withPen s p) a d n
 pub step-pen : (s : Screen) (b : ℕ) → advanced s b .pen ≡ penAfter (s .pen) b
 unfolding advanced
 step-pen s b = applied-pen s (planned (s .pen) b .pen) (planned (s .pen) b .asked)
+
+-- so what becomes of a waiting ground is what becomes of it in the pen
+pub step-fate : (s : Screen) (g b : ℕ) → s .pen .attributes .waiting ≡ Ground g
+    → grounds (advanced s b .pen .attributes) ≡ outcome (s .pen) g (fate (s .pen) (ordered (s .pen) b))
+step-fate s g b e = ap (λ (p : Pen). grounds (p .attributes)) (step-pen s b) ∙ value-fate (s .pen) g b e
 
 -- ---- US into row 0
 

@@ -16,8 +16,6 @@ mod reading;
 use cells::Cell;
 use cursor::Place;
 use pen::Pen;
-pub use reading::Cursor;
-pub use reading::Read;
 
 pub struct Screen {
     // Row 0 first, its columns 1 to 40, then row 1.

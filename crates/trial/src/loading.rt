@@ -12,9 +12,9 @@ use crate::words::numbers;
 use crate::words::place_among;
 use crate::words::word;
 use attributes::Attributes;
-use attributes::Cell;
 use attributes::Waiting;
 use bytes::scan::find;
+use cells::Cell;
 use cursor::Place;
 use pen::Kept;
 use pen::Last;
@@ -72,7 +72,7 @@ pub(crate) fn are_cells(word: &[u8]) -> bool {
 // The cell that seven digits name.
 fn cell_of(seven: &[u8]) -> Cell {
     if seven.len() < 7 {
-        return attributes::blank();
+        return cells::blank();
     }
     Cell {
         set: digit(seven[0]),
@@ -86,7 +86,7 @@ fn cell_of(seven: &[u8]) -> Cell {
 
 // The cells that such a word names.
 pub(crate) fn cells_of(word: &[u8]) -> [Cell; 1000] {
-    let blank = attributes::blank();
+    let blank = cells::blank();
     let mut cells = [blank; 1000];
     let mut i = 0;
     while i < 1000 {

@@ -1,0 +1,38 @@
+// Demand 1 on the screen: whatever state and values are handed in, a call ends, and each refusal has its number and
+// changes nothing.
+ghost use mathlib.Core.Path.{_≡_};
+ghost use mathlib.Core.Bool.{true, false};
+ghost use mathlib.Core.List.{List, [], _∷_};
+ghost use Prim.Native.Nat.{ℕ, _≤_, _<_};
+ghost use lib.ListN.{length};
+ghost use Rattle.values.specs.Large.{firstLarge};
+ghost use Rattle.screen.specs.declared.Screen.{Screen};
+ghost use Rattle.screen.specs.declared.Answer.the-variants.{TooLarge, Broken};
+ghost use Rattle.screen.specs.declared.Read.the-variants.{Broken as Unread};
+ghost use Rattle.screen.specs.declared.Cursor.the-variants.{Broken as Lost};
+ghost use Rattle.screen.specs.Screens.{freshScreen};
+ghost use Rattle.screen.specs.Ranges.{inRange, InScreen};
+ghost use Rattle.screen.specs.Calls.{told, stepsTo, stepped, runsTo, ran, runTold, read, pointed};
+
+// A call's number, and the place that it names, come of the paper's conditions in their order: 5 for a state outside
+// its ranges, then 2 for a value above 127, at its lowest place, and else 0. A step is refused as the run over its one
+// value is. After a refusal the state handed in comes back.
+pub fn each_call_gives_its_number()
+    ensures runs { λ _. ⌜ ((s : Screen) (vs : List ℕ) → told (ran s vs .answer) ≡ runTold s vs) ⌝ }
+    ensures steps { λ _. ⌜ ((s : Screen) (b : ℕ) → told (stepped s b .answer) ≡ runTold s (b ∷ [])) ⌝ }
+    ensures broken { λ _. ⌜ ((s : Screen) → inRange s ≡ false → ((b : ℕ) → stepped s b ≡ stepsTo s Broken)
+        × ((vs : List ℕ) → ran s vs ≡ runsTo s Broken)
+        × ((r c : ℕ) → read s r c ≡ Unread) × (pointed s ≡ Lost)) ⌝ }
+    ensures large { λ _. ⌜ ((s : Screen) → inRange s ≡ true
+        → ((b : ℕ) → 127 < b → stepped s b ≡ stepsTo s (TooLarge 0))
+        × ((vs : List ℕ) → firstLarge vs < length vs → ran s vs ≡ runsTo s (TooLarge (firstLarge vs)))) ⌝ }
+{}
+
+// A fresh screen is in range, and from a screen in range every step with a value of 0 to 127 gives one in range. The
+// test that the calls make says exactly which screens of a thousand cells are in range.
+pub fn every_step_keeps_the_range()
+    ensures anew { λ _. ⌜ InScreen freshScreen ⌝ }
+    ensures steps { λ _. ⌜ ((s : Screen) → InScreen s → (b : ℕ) → b ≤ 127 → InScreen (stepped s b .screen)) ⌝ }
+    ensures tested { λ _. ⌜ ((s : Screen) → InScreen s → inRange s ≡ true) ⌝ }
+    ensures passed { λ _. ⌜ ((s : Screen) → length (s .cells) ≡ 1000 → inRange s ≡ true → InScreen s) ⌝ }
+{}
