@@ -7,7 +7,15 @@ use Rattle.validity.specs.Block.{codeBits, remainder, valid}
 use Rattle.validity.specs.Changed.{flip}
 use Rattle.maker.specs.Making.{useful, sealed, blockOf}
 use Rattle.reader.specs.Judging.{tryFrom, verdict, left}
-use Rattle.cards.specs.Cards.{Card, EachHolds, blockCards, lineCards, cards}
+use Rattle.values.specs.Large.{firstLarge}
+use Rattle.cells.specs.Characters.{cleared}
+use Rattle.cells.specs.Within.{goodCharacter, allGood}
+use Rattle.pen.specs.Pens.{goodSpot, inRange as penInRange}
+use Rattle.pen.specs.Obeying.{gone, obeyed}
+use Rattle.screen.specs.Screens.{freshScreen, written, writtenTimes, applied, advanced, advancedBy}
+use Rattle.screen.specs.Ranges.{inRange}
+use Rattle.screen.specs.Calls.{ran}
+use Rattle.cards.specs.Cards.{Card, EachHolds, blockCards, lineCards, screenCards, cards}
 
 on-blocks : EachHolds blockCards
 unfolding lowBits bits reduce divide checkBits ones even allEven withParity codeBits remainder valid
@@ -19,9 +27,16 @@ on-the-line : EachHolds lineCards
 unfolding lowBits bits reduce divide ones even allEven withParity codeBits remainder valid flip tryFrom verdict left
 on-the-line = ((refl, refl, refl), ((refl, refl, refl), ((refl, refl, refl), tt)))
 
+on-the-screen : EachHolds screenCards
+unfolding firstLarge cleared goodCharacter allGood goodSpot penInRange gone obeyed
+    freshScreen written writtenTimes applied advanced advancedBy inRange ran
+on-the-screen = ((refl, refl, refl), ((refl, refl, refl), ((refl, refl, refl), tt)))
+
 each-append : (cs ds : List Card) → EachHolds cs → EachHolds ds → EachHolds (cs ++ ds)
 each-append [] ds p q = q
 each-append (c ∷ cs) ds p q = (p .0, each-append cs ds (p .1) q)
 
 pub bench : EachHolds cards
-bench = each-append blockCards lineCards on-blocks on-the-line
+bench =
+    each-append blockCards (lineCards ++ screenCards) on-blocks
+    (each-append lineCards screenCards on-the-line on-the-screen)

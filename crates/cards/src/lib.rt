@@ -1,4 +1,4 @@
-// The bench cards W1 to W11 of 01, as one statement over their list (specs/Cards).
+// The bench cards W1 to W14 of 01, as one statement over their list (specs/Cards).
 ghost use Rattle.cards.specs.Cards.{EachHolds, cards};
 
 // Every card of the list holds.
