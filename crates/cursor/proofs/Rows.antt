@@ -1,9 +1,9 @@
 -- No move by one enters row 0 or leaves it: row 24 joins row 1. Assumes nothing.
-use mathlib.Core.Path.{_≡_, refl}
+use mathlib.Core.Path.{_≡_}
 use Prim.Native.Nat.{ℕ, _≤_}
 use native.Mathlib.Omega.{arith}
 use lib.Dec.{ltb, eqb, lit≤}
-use borrow.Author.Tests.{ltb-true, eqb-true, eq-eqb}
+use borrow.Author.Tests.{ltb-true, eq-eqb, le-ltb}
 use Rattle.laws.proofs.Computed.{chosen}
 use Rattle.cursor.specs.declared.Place.{Place}
 use Rattle.cursor.specs.Moves.{rowBelow, rowAbove, leftOf, rightOf, upOf, downOf, firstOf}
@@ -25,7 +25,7 @@ right-zero p h =
     chosen (λ (x : Place). x .row ≡ 0) (ltb (p .column) 40) (λ e. h) (λ e. simp (eq-eqb (p .row) 0 h) h)
 
 up-zero : (p : Place) → p .row ≡ 0 → upOf p .row ≡ 0
-up-zero p h = simp (eq-eqb (p .row) 0 h) h
+up-zero p h = simp (le-ltb 0 (p .row) (omega (arith, h))) h
 
 -- ---- below it
 
@@ -40,7 +40,7 @@ right-one p h =
     (λ e. chosen (λ (x : Place). 1 ≤ x .row) (eqb (p .row) 0) (λ f. h) (λ f. below-one (p .row)))
 
 up-one : (p : Place) → 1 ≤ p .row → 1 ≤ upOf p .row
-up-one p h = chosen (λ (x : Place). 1 ≤ x .row) (eqb (p .row) 0) (λ f. h) (λ f. above-one (p .row))
+up-one p h = chosen (λ (x : Place). 1 ≤ x .row) (ltb 0 (p .row)) (λ f. above-one (p .row)) (λ f. h)
 
 -- ---- each move
 

@@ -47,7 +47,7 @@ rightOf p =
 
 -- VT: "Row 0: .. VT do nothing"
 abbrev pub upOf : Place → Place
-upOf p = cond (eqb (p .row) 0) p (at (rowAbove (p .row)) (p .column))
+upOf p = cond (ltb 0 (p .row)) (at (rowAbove (p .row)) (p .column)) p
 
 -- LF outside row 0
 abbrev pub downOf : Place → Place

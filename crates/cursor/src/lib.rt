@@ -3,7 +3,7 @@
 // Every place is taken, also one off the screen, and every move gives a place. specs/Moves says which; proofs/Stays
 // shows that from a place on the screen no move leaves it, and that none but US enters row 0 or leaves it.
 ghost use mathlib.Core.Path.{_≡_};
-ghost use Rattle.cursor.specs.Moves.{home as homeOf, onScreen, rowBelow, rowAbove, leftOf, rightOf, upOf};
+ghost use Rattle.cursor.specs.Moves.{onScreen, rowBelow, rowAbove, leftOf, rightOf, upOf};
 ghost use Rattle.cursor.specs.Moves.{downOf, firstOf, addressed};
 
 // Rows count from 0, columns from 1.
@@ -16,13 +16,6 @@ pub struct Place {
 pub enum Address {
     Nowhere,
     There(Place),
-}
-
-// Where the cursor starts.
-pub fn home() -> Place
-    ensures { λ r. ⌜ r ≡ homeOf ⌝ }
-{
-    Place { row: 1, column: 1 }
 }
 
 // Row 24 joins row 1.
@@ -84,11 +77,12 @@ impl Place {
                 column: self.column + 1,
             };
         }
-        if self.row == 0 {
+        let row = self.row;
+        if row == 0 {
             return self;
         }
         Place {
-            row: row_below(self.row),
+            row: row_below(row),
             column: 1,
         }
     }
@@ -97,13 +91,13 @@ impl Place {
     pub fn up(self) -> Place
         ensures { λ r. ⌜ r ≡ upOf self ⌝ }
     {
-        if self.row == 0 {
-            return self;
+        if 0 < self.row {
+            return Place {
+                row: row_above(self.row),
+                column: self.column,
+            };
         }
-        Place {
-            row: row_above(self.row),
-            column: self.column,
-        }
+        self
     }
 
     // LF outside row 0.
@@ -117,13 +111,11 @@ impl Place {
     }
 
     // CR.
-    pub fn first(self) -> Place
+    pub fn first(mut self) -> Place
         ensures { λ r. ⌜ r ≡ firstOf self ⌝ }
     {
-        Place {
-            row: self.row,
-            column: 1,
-        }
+        self.column = 1;
+        self
     }
 }
 

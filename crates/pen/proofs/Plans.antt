@@ -8,7 +8,7 @@ use Rattle.sequences.specs.declared.Sequence.the-variants.{Free}
 use Rattle.sequences.specs.declared.Order.the-variants.{Write}
 use Rattle.sequences.specs.declared.Heard.{Heard}
 use Rattle.sequences.specs.Hearing.{isFree, does, heard}
-use Rattle.sequences.proofs.Codes.{free, heard-code}
+use Rattle.sequences.proofs.Codes.{free, heard-text}
 use Rattle.pen.specs.declared.Pen.{Pen}
 use Rattle.pen.specs.declared.Plan.{Plan}
 use Rattle.pen.specs.Pens.{withSequence, inRange}
@@ -31,5 +31,5 @@ pub plan-text : (p : Pen) (b : ℕ) → isFree (p .sequence) ≡ true → 31 < b
 unfolding obeyed
 plan-text p b e h =
     let f : p .sequence ≡ Free = free (p .sequence) e in
-    plan-heard p b (does (Write b)) (ap (λ (q : Sequence). heard q b) f ∙ heard-code Free b h)
+    plan-heard p b (does (Write b)) (ap (λ (q : Sequence). heard q b) f ∙ heard-text b h)
     ∙ ap (λ (q : Sequence). puts (withSequence p q) (p .attributes .set) b 1) (sym f)

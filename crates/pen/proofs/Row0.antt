@@ -10,12 +10,12 @@ use Rattle.cursor.specs.declared.Address.{Address}
 use Rattle.cursor.specs.declared.Address.the-variants.{Nowhere, There}
 use Rattle.cursor.specs.Moves.{at, downOf, good, addressed}
 use Rattle.sequences.specs.declared.Sequence.{Sequence}
-use Rattle.sequences.specs.declared.Sequence.the-variants.{Free, Row}
+use Rattle.sequences.specs.declared.Sequence.the-variants.{Free, Separator, Row}
 use Rattle.sequences.specs.declared.Order.{Order}
 use Rattle.sequences.specs.declared.Order.the-variants.{Skip, Left, Right, Up, Down, First, Clear, Home}
 use Rattle.sequences.specs.declared.Order.the-variants.{ShiftOut, ShiftIn, Show, Hide, Pair, Go, Write}
 use Rattle.sequences.specs.declared.Order.the-variants.{Second, Again}
-use Rattle.sequences.specs.Hearing.{isSeparator, does, control, heard}
+use Rattle.sequences.specs.Hearing.{does, control, heard}
 use Rattle.sequences.proofs.Codes.{heard-code, heard-control}
 use Rattle.pen.specs.declared.Last.{Last}
 use Rattle.pen.specs.declared.Last.the-variants.{Never, Character}
@@ -97,7 +97,7 @@ enters p c q r h k =
     ∙ ap keeps (entering-row (withSequence p Free) (at 0 (c - 64)) refl r)
 
 -- LF in row 0, not after SEP: no cell is asked for, and what was kept is back
-pub lf-back : (p : Pen) → isSeparator (p .sequence) ≡ false → p .place .row ≡ 0
+pub lf-back : (p : Pen) → (p .sequence ≡ Separator → ⊥) → p .place .row ≡ 0
     → planned p 10
     ≡ keeps (withAttributes (withPlace (withSequence p Free) (p .kept .place)) (p .kept .attributes))
 unfolding obeyed

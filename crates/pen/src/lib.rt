@@ -63,7 +63,7 @@ impl Pen {
     pub fn fresh() -> Pen
         ensures { λ r. ⌜ r ≡ freshPen ⌝ }
     {
-        let place = cursor::home();
+        let place = Place { row: 1, column: 1 };
         let start = attributes::start();
         let kept = Kept {
             place,

@@ -1,5 +1,6 @@
 // A pen moved: to another place, home, down, or to where US leads.
 ghost use mathlib.Core.Path.{_≡_};
+ghost use Rattle.cursor.specs.Moves.{home};
 ghost use Rattle.pen.specs.Pens.{withPlace, withAttributes, withSequence, withShown};
 ghost use Rattle.pen.specs.Obeying.{startAt, lowered, keeping, entering, gone};
 use crate::Kept;
@@ -49,10 +50,21 @@ impl Pen {
     }
 
     // To a place, with start attributes.
-    pub(crate) fn start_at(self, place: Place) -> Pen
+    fn start_at(mut self, place: Place) -> Pen
         ensures { λ r. ⌜ r ≡ startAt self place ⌝ }
     {
-        self.with_place(place).with_attributes(attributes::start())
+        let start = attributes::start();
+        self.place = place;
+        self.attributes = start;
+        self
+    }
+
+    // FF and RS.
+    pub(crate) fn go_home(self) -> Pen
+        ensures { λ r. ⌜ r ≡ startAt self home ⌝ }
+    {
+        let place = Place { row: 1, column: 1 };
+        self.start_at(place)
     }
 
     // LF: in row 0 back to what was kept.

@@ -50,10 +50,10 @@ impl Pen {
             Order::Down => self.go_down().keep_cells(),
             Order::First => self.with_place(self.place.first()).keep_cells(),
             Order::Clear => Plan {
-                pen: self.start_at(cursor::home()),
+                pen: self.go_home(),
                 asked: Asked::Blank,
             },
-            Order::Home => self.start_at(cursor::home()).keep_cells(),
+            Order::Home => self.go_home().keep_cells(),
             Order::ShiftOut => self.with_attributes(self.attributes.shift_out())
                 .keep_cells(),
             Order::ShiftIn => self.with_attributes(self.attributes.shift_in())

@@ -1,6 +1,6 @@
 -- What a run answers, case by case. Assumes nothing.
 use mathlib.Core.Path.{_≡_, ap, _∙_}
-use mathlib.Core.Bool.{true}
+use mathlib.Core.Bool.{false}
 use mathlib.Core.List.{List}
 use Prim.Native.Nat.{ℕ, _≤_, _<_}
 use lib.ListN.{length}
@@ -9,10 +9,10 @@ use Rattle.values.specs.Large.{firstLarge}
 use Rattle.screen.specs.declared.Screen.{Screen}
 use Rattle.screen.specs.declared.Answer.the-variants.{Taken, TooLarge}
 use Rattle.screen.specs.Screens.{advancedBy}
-use Rattle.screen.specs.Ranges.{inRange}
+use Rattle.screen.specs.Ranges.{broken}
 use Rattle.screen.specs.Calls.{runsTo, ran}
 
-module _ (s : Screen) (vs : List ℕ) (e : inRange s ≡ true) where
+module _ (s : Screen) (vs : List ℕ) (e : broken s ≡ false) where
   pub ran-large : (i : ℕ) → i ≡ firstLarge vs → i < length vs → runsTo s (TooLarge i) ≡ ran s vs
   unfolding ran
   ran-large i f h = simp (e, ← f, lt-ltb i (length vs) h)

@@ -1,6 +1,6 @@
 -- The numbers given, and a piece as single steps. Assumes nothing.
 use mathlib.Core.Path.{_≡_, refl, sym, ap, _∙_, subst}
-use mathlib.Core.Bool.{Bool, true, false, cond, not}
+use mathlib.Core.Bool.{Bool, true, false, cond}
 use mathlib.Core.List.{List, [], _∷_, _++_}
 use mathlib.Core.Logic.{⊎-elim}
 use Prim.Native.Nat.{ℕ, suc, _≤_, _<_}
@@ -21,37 +21,37 @@ use Rattle.screen.specs.declared.Ran.{Ran}
 use Rattle.screen.specs.declared.Read.the-variants.{Broken as Unread}
 use Rattle.screen.specs.declared.Cursor.the-variants.{Broken as Lost}
 use Rattle.screen.specs.Screens.{advanced, advancedBy}
-use Rattle.screen.specs.Ranges.{inRange, InScreen}
+use Rattle.screen.specs.Ranges.{broken, InScreen}
 use Rattle.screen.specs.Calls.{told, stepsTo, stepped, runsTo, ran, runTold, read, pointed}
 use Rattle.screen.specs.Claims.{singly}
-use Rattle.screen.proofs.Stays.{screen-true, advanced-in}
+use Rattle.screen.proofs.Stays.{unbroken, advanced-in}
 use Rattle.screen.proofs.Steps.{by-append}
 use Rattle.screen.proofs.Answers.{ran-taken}
 
 -- ---- numbers
 
--- what a call tells: whether the state is in range, whether a value is too large, and its place
+-- what a call tells: whether the state is broken, whether a value is too large, and its place
 abbrev tells : Bool → Bool → ℕ → Told
 tells t u k =
-    let n = numberOf (record { wrongLength = false; brokenState = not t; tooLarge = u; noRoom = false; repeat = false }) in
+    let n = numberOf (record { wrongLength = false; brokenState = t; tooLarge = u; noRoom = false; repeat = false }) in
     record { number = n; named = cond (eqb n 2) (k ∷ []) [] }
 
 -- what a run tells comes of its conditions
 told-by : (t u : Bool) (s x : Screen) (k : ℕ)
-    → told (cond t (cond u (runsTo s (TooLarge k)) (runsTo x Taken)) (runsTo s Broken) .answer) ≡ tells t u k
-told-by true true s x k = refl
-told-by true false s x k = refl
-told-by false u s x k = refl
+    → told (cond t (runsTo s Broken) (cond u (runsTo s (TooLarge k)) (runsTo x Taken)) .answer) ≡ tells t u k
+told-by true u s x k = refl
+told-by false true s x k = refl
+told-by false false s x k = refl
 
 pub run-told : (s : Screen) (vs : List ℕ) → told (ran s vs .answer) ≡ runTold s vs
 unfolding ran
-run-told s vs = told-by (inRange s) (ltb (firstLarge vs) (length vs)) s (advancedBy s vs) (firstLarge vs)
+run-told s vs = told-by (broken s) (ltb (firstLarge vs) (length vs)) s (advancedBy s vs) (firstLarge vs)
 
-large-told : (t : Bool) (s : Screen) → told (cond t (stepsTo s (TooLarge 0)) (stepsTo s Broken) .answer) ≡ tells t true 0
+large-told : (t : Bool) (s : Screen) → told (cond t (stepsTo s Broken) (stepsTo s (TooLarge 0)) .answer) ≡ tells t true 0
 large-told true s = refl
 large-told false s = refl
 
-small-told : (t : Bool) (s x : Screen) → told (cond t (stepsTo x Taken) (stepsTo s Broken) .answer) ≡ tells t false 1
+small-told : (t : Bool) (s x : Screen) → told (cond t (stepsTo s Broken) (stepsTo x Taken) .answer) ≡ tells t false 1
 small-told true s x = refl
 small-told false s x = refl
 
@@ -59,39 +59,39 @@ small-told false s x = refl
 pub step-told : (s : Screen) (b : ℕ) → told (stepped s b .answer) ≡ runTold s (b ∷ [])
 unfolding stepped firstLarge
 step-told s b =
-    ⊎-elim (λ (h : 127 < b). simp (lt-ltb 127 b h, le-ltb b 128 h) (large-told (inRange s) s))
-    (λ (h : b ≤ 127). simp (le-ltb 127 b h, lt-ltb b 128 (omega (arith, h))) (small-told (inRange s) s (advanced s b)))
+    ⊎-elim (λ (h : 127 < b). simp (lt-ltb 127 b h, le-ltb b 128 h) (large-told (broken s) s))
+    (λ (h : b ≤ 127). simp (le-ltb 127 b h, lt-ltb b 128 (omega (arith, h))) (small-told (broken s) s (advanced s b)))
     (apart 127 b)
 
 -- ---- refusals
 
-pub step-broken : (s : Screen) (b : ℕ) → inRange s ≡ false → stepped s b ≡ stepsTo s Broken
+pub step-broken : (s : Screen) (b : ℕ) → broken s ≡ true → stepped s b ≡ stepsTo s Broken
 unfolding stepped
 step-broken s b e = simp e
 
-pub reads-broken : (s : Screen) → inRange s ≡ false → ((r c : ℕ) → read s r c ≡ Unread) × (pointed s ≡ Lost)
+pub reads-broken : (s : Screen) → broken s ≡ true → ((r c : ℕ) → read s r c ≡ Unread) × (pointed s ≡ Lost)
 unfolding read pointed
 reads-broken s e = (λ r c. simp e, simp e)
 
-pub step-large : (s : Screen) (b : ℕ) → inRange s ≡ true → 127 < b → stepped s b ≡ stepsTo s (TooLarge 0)
+pub step-large : (s : Screen) (b : ℕ) → broken s ≡ false → 127 < b → stepped s b ≡ stepsTo s (TooLarge 0)
 unfolding stepped
 step-large s b e h = simp (e, lt-ltb 127 b h)
 
-pub run-broken : (s : Screen) (vs : List ℕ) → inRange s ≡ false → ran s vs ≡ runsTo s Broken
+pub run-broken : (s : Screen) (vs : List ℕ) → broken s ≡ true → ran s vs ≡ runsTo s Broken
 unfolding ran
 run-broken s vs e = simp e
 
 -- ---- steps
 
-pub step-taken : (s : Screen) (b : ℕ) → inRange s ≡ true → b ≤ 127 → stepped s b ≡ stepsTo (advanced s b) Taken
+pub step-taken : (s : Screen) (b : ℕ) → broken s ≡ false → b ≤ 127 → stepped s b ≡ stepsTo (advanced s b) Taken
 unfolding stepped
 step-taken s b e h = simp (e, le-ltb 127 b h)
 
 pub stepped-in : (s : Screen) → InScreen s → (b : ℕ) → b ≤ 127 → InScreen (stepped s b .screen)
 stepped-in s h b l =
-    subst InScreen (sym (ap (λ (a : Stepped). a .screen) (step-taken s b (screen-true h) l))) (advanced-in b l h)
+    subst InScreen (sym (ap (λ (a : Stepped). a .screen) (step-taken s b (unbroken h) l))) (advanced-in b l h)
 
-pub run-taken : (s : Screen) (vs : List ℕ) → inRange s ≡ true → Values vs → ran s vs ≡ runsTo (advancedBy s vs) Taken
+pub run-taken : (s : Screen) (vs : List ℕ) → broken s ≡ false → Values vs → ran s vs ≡ runsTo (advancedBy s vs) Taken
 run-taken s vs e h = sym (ran-taken s vs e (omega (arith, none-large vs h)))
 
 singly-by : (s : Screen) (vs : List ℕ) → InScreen s → Values vs → advancedBy s vs ≡ singly s vs
@@ -100,12 +100,12 @@ singly-by s [] h v = refl
 singly-by s (b ∷ bs) h v =
     let l : b ≤ 127 = omega (arith, v 0 (zero-lt-suc (length bs))) in
     singly-by (advanced s b) bs (advanced-in b l h) (λ i k. v (suc i) (omega (arith, k)))
-    ∙ ap (λ (x : Screen). singly x bs) (sym (ap (λ (a : Stepped). a .screen) (step-taken s b (screen-true h) l)))
+    ∙ ap (λ (x : Screen). singly x bs) (sym (ap (λ (a : Stepped). a .screen) (step-taken s b (unbroken h) l)))
 
 -- a piece of values of 0 to 127 is its single steps
 pub run-singly : (s : Screen) (vs : List ℕ) → InScreen s → Values vs → ran s vs ≡ runsTo (singly s vs) Taken
 run-singly s vs h v =
-    run-taken s vs (screen-true h) v ∙ ap (λ (x : Screen). runsTo x Taken) (singly-by s vs h v)
+    run-taken s vs (unbroken h) v ∙ ap (λ (x : Screen). runsTo x Taken) (singly-by s vs h v)
 
 by-in : (s : Screen) (vs : List ℕ) → InScreen s → Values vs → InScreen (advancedBy s vs)
 unfolding advancedBy
@@ -118,7 +118,7 @@ by-in s (b ∷ bs) h v =
 pub run-parts : (s : Screen) (us vs : List ℕ) → InScreen s → Values us → Values vs
     → ran s (us ++ vs) ≡ ran (ran s us .screen) vs
 run-parts s us vs h k l =
-    run-taken s (us ++ vs) (screen-true h) (values-append us vs k l)
+    run-taken s (us ++ vs) (unbroken h) (values-append us vs k l)
     ∙ ap (λ (x : Screen). runsTo x Taken) (by-append s us vs)
-    ∙ sym (run-taken (advancedBy s us) vs (screen-true (by-in s us h k)) l)
-    ∙ ap (λ (r : Ran). ran (r .screen) vs) (sym (run-taken s us (screen-true h) k))
+    ∙ sym (run-taken (advancedBy s us) vs (unbroken (by-in s us h k)) l)
+    ∙ ap (λ (r : Ran). ran (r .screen) vs) (sym (run-taken s us (unbroken h) k))

@@ -2,6 +2,7 @@
 use mathlib.Core.Path.{_≡_, refl, sym, ap, _∙_}
 use mathlib.Core.Bool.{true, false}
 use Prim.Native.Nat.{ℕ, _-_, _≤_, _<_}
+use Rattle.laws.proofs.Computed.{holds, fails}
 use Rattle.sequences.specs.declared.Sequence.{Sequence}
 use Rattle.sequences.specs.declared.Sequence.the-variants.{Free, Separator, Repeat}
 use Rattle.sequences.specs.declared.Order.the-variants.{Skip, Again}
@@ -72,14 +73,17 @@ never-step s n e l h =
 
 -- ---- a C0 code within a sequence
 
+free-open : Free ≡ Separator → ⊥
+free-open e = fails refl (holds (ap isSeparator e))
+
 -- it acts as with nothing unfinished
-pub control-step : (s : Screen) (b : ℕ) → isSeparator (s .pen .sequence) ≡ false → 1 ≤ b → b ≤ 31
+pub control-step : (s : Screen) (b : ℕ) → (s .pen .sequence ≡ Separator → ⊥) → 1 ≤ b → b ≤ 31
     → advanced s b ≡ advanced (ended s) b
 control-step s b e l h =
     let a = plannedBy (s .pen) (control b) in
     step-plan s b a (plan-heard (s .pen) b (control b) (heard-control (s .pen .sequence) b e l h))
     ∙ sym (applied-any s (ended s .pen) (a .pen) (a .asked))
-    ∙ sym (step-plan (ended s) b a (plan-heard (ended s .pen) b (control b) (heard-control Free b refl l h)))
+    ∙ sym (step-plan (ended s) b a (plan-heard (ended s .pen) b (control b) (heard-control Free b free-open l h)))
 
 -- after SEP any code but NUL is dropped
 pub dropped-step : (s : Screen) (b : ℕ) → s .pen .sequence ≡ Separator → 1 ≤ b → advanced s b ≡ ended s

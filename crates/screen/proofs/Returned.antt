@@ -9,9 +9,9 @@ use lib.ListN.{replicate}
 use Rattle.attributes.specs.declared.Waiting.the-variants.{Ground}
 use Rattle.attributes.specs.Attributing.{grounds}
 use Rattle.sequences.specs.declared.Sequence.{Sequence}
-use Rattle.sequences.specs.declared.Sequence.the-variants.{Free, Address, Row}
+use Rattle.sequences.specs.declared.Sequence.the-variants.{Separator, Address, Row}
 use Rattle.sequences.specs.declared.Heard.{Heard}
-use Rattle.sequences.specs.Hearing.{isSeparator, control, opens, heard}
+use Rattle.sequences.specs.Hearing.{control, opens}
 use Rattle.sequences.proofs.Codes.{heard-code, heard-control}
 use Rattle.pen.specs.declared.Pen.{Pen}
 use Rattle.pen.specs.declared.Kept.{Kept}
@@ -68,7 +68,7 @@ nuls s (suc i) bs = ap (λ (x : Screen). advancedBy x (replicate i 0 ++ bs)) (nu
 with : Screen → Sequence → Screen
 with s q = withPen s (withSequence (s .pen) q)
 
-us : (s : Screen) → isSeparator (s .pen .sequence) ≡ false → advanced s 31 ≡ with s Address
+us : (s : Screen) → (s .pen .sequence ≡ Separator → ⊥) → advanced s 31 ≡ with s Address
 unfolding with obeyed applied
 us s e =
     step-plan s 31 _
@@ -86,7 +86,7 @@ unfolding with applied
 column s c r h k = step-plan (with s (Row 64)) c _ (enters (with s (Row 64) .pen) c refl r h k)
 
 -- the screen in row 0
-pub entering : (s : Screen) (i j c : ℕ) → isSeparator (s .pen .sequence) ≡ false → 1 ≤ s .pen .place .row
+pub entering : (s : Screen) (i j c : ℕ) → (s .pen .sequence ≡ Separator → ⊥) → 1 ≤ s .pen .place .row
     → 65 ≤ c → c ≤ 104 → advancedBy s (enteringRow0 i j c) ≡ withPen s (entered (s .pen) c)
 unfolding advancedBy
 entering s i j c e r h k =
@@ -110,7 +110,7 @@ stays-kept {s} e (next {b = b} f t) =
 
 -- a screen as US left it in row 0, after values that stay there
 back : (s e : Screen) (c : ℕ) (bs : List ℕ) → e ≡ withPen s (entered (s .pen) c) → StaysInRow0 e bs
-    → isSeparator (advancedBy e bs .pen .sequence) ≡ false
+    → (advancedBy e bs .pen .sequence ≡ Separator → ⊥)
     → (advanced (advancedBy e bs) 10 .pen .place ≡ s .pen .place)
     × (advanced (advancedBy e bs) 10 .pen .attributes ≡ s .pen .attributes)
     × (advanced (advancedBy e bs) 10 .cells ≡ advancedBy e bs .cells)
@@ -124,10 +124,10 @@ back s e c bs f t q =
       ap (λ (x : Screen). x .cells) g,
     )
 
-pub returned : (s : Screen) (i j c : ℕ) (bs : List ℕ) → isSeparator (s .pen .sequence) ≡ false → 1 ≤ s .pen .place .row
+pub returned : (s : Screen) (i j c : ℕ) (bs : List ℕ) → (s .pen .sequence ≡ Separator → ⊥) → 1 ≤ s .pen .place .row
     → 65 ≤ c → c ≤ 104
     → let e = advancedBy s (enteringRow0 i j c) in let f = advancedBy e bs in
-    StaysInRow0 e bs → isSeparator (f .pen .sequence) ≡ false
+    StaysInRow0 e bs → (f .pen .sequence ≡ Separator → ⊥)
     → (advanced f 10 .pen .place ≡ s .pen .place) × (advanced f 10 .pen .attributes ≡ s .pen .attributes)
     × (advanced f 10 .cells ≡ f .cells)
 returned s i j c bs q r h k t u = back s (advancedBy s (enteringRow0 i j c)) c bs (entering s i j c q r h k) t u

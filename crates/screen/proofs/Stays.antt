@@ -1,6 +1,6 @@
 -- What the range test of a screen says; every step leaves a screen in range. Assumes nothing.
-use mathlib.Core.Path.{_≡_, refl, _∙_}
-use mathlib.Core.Bool.{true}
+use mathlib.Core.Path.{_≡_, refl, sym, ap, _∙_}
+use mathlib.Core.Bool.{Bool, true, false, not}
 use mathlib.Core.List.{[], _∷_}
 use Prim.Native.Nat.{ℕ, zero, suc, _+_, _*_, _-_, _≤_, _<_}
 use native.Mathlib.Omega.{arith}
@@ -19,7 +19,7 @@ use Rattle.pen.specs.Planning.{planned}
 use Rattle.pen.proofs.Stays.{pen-true, true-pen, fresh-in, InAsked, planned-in, after-in, stroke-cell}
 use Rattle.screen.specs.declared.Screen.{Screen}
 use Rattle.screen.specs.Screens.{freshScreen, indexOf, written, writtenTimes, applied, advanced}
-use Rattle.screen.specs.Ranges.{inRange, InScreen}
+use Rattle.screen.specs.Ranges.{inRange, broken, InScreen}
 
 -- a place on the screen has its cell among the thousand
 pub index-low : {x : Place} → On x → indexOf x < 1000
@@ -36,6 +36,22 @@ unfolding inRange
 true-screen s n e =
     let t = each (penInRange (s .pen) ∷ allGood (s .cells) ∷ []) e in
     record { pen = true-pen (s .pen) (t .0); cells = true-all (s .cells) (t .1); thousand = n }
+
+-- broken is what is not in range
+pub whole : (s : Screen) → broken s ≡ false → inRange s ≡ true
+unfolding broken
+whole s e = go (inRange s) e
+  where
+    go : (t : Bool) → not t ≡ false → t ≡ true
+    go true f = refl
+    go false f = sym f
+
+not-broken : (s : Screen) → inRange s ≡ true → broken s ≡ false
+unfolding broken
+not-broken s e = ap not e
+
+pub unbroken : {s : Screen} → InScreen s → broken s ≡ false
+unbroken {s} h = not-broken s (screen-true h)
 
 -- the pen alone
 pub true-pen-in : (s : Screen) → inRange s ≡ true → InPen (s .pen)

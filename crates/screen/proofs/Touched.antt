@@ -7,7 +7,7 @@ use native.Mathlib.Nat.{le-of-suc-le-suc, not-suc-le-zero}
 use native.Mathlib.Omega.{arith}
 use lib.Dec.{eqb, lit≤}
 use lib.ListN.{getD}
-use lib.Seq.{getD-set-other}
+use lib.Seq.{getD-set-same, getD-set-other}
 use borrow.Author.Tests.{eqb-true, eqb-false}
 use Rattle.laws.proofs.Computed.{each, holds, fails}
 use Rattle.cursor.specs.declared.Place.{Place}
@@ -16,13 +16,15 @@ use Rattle.cursor.proofs.Stays.{right-on}
 use Rattle.cells.specs.declared.Cell.{Cell}
 use Rattle.cells.specs.Characters.{blankOf, cleared}
 use Rattle.cells.proofs.Blanked.{row-0-kept, others-blank}
+use Rattle.sequences.specs.declared.Sequence.{Sequence}
+use Rattle.sequences.specs.declared.Sequence.the-variants.{Separator}
 use Rattle.sequences.specs.Hearing.{isSeparator, control}
 use Rattle.sequences.proofs.Codes.{heard-control}
 use Rattle.pen.specs.declared.Pen.{Pen}
 use Rattle.pen.specs.declared.Asked.{Asked}
 use Rattle.pen.specs.declared.Asked.the-variants.{Nothing, Blank, Put}
 use Rattle.pen.specs.Obeying.{obeyed}
-use Rattle.pen.specs.Planning.{planned}
+use Rattle.pen.specs.Planning.{planned, stroke}
 use Rattle.pen.specs.Reach.{writes, clears}
 use Rattle.pen.proofs.Plans.{plan-heard}
 use Rattle.pen.proofs.Reached.{Asks, plan-asks}
@@ -85,6 +87,17 @@ times-cell s a d (suc n) x h k f =
     same : indexOf x ≡ indexOf (writtenTimes s a d n .pen .place) → x ≡ moved n (s .pen .place)
     same e = one-place k (moved-on n h) (e ∙ ap indexOf (times-place s a d n))
 
+-- a character is at the cursor's place, with its set and code
+pub character-there : (s : Screen) (a d : ℕ) → InScreen s
+    → (cellAt (written s a d) (s .pen .place) .set ≡ a) × (cellAt (written s a d) (s .pen .place) .code ≡ d)
+unfolding written
+character-there s a d h =
+    let e =
+    getD-set-same (s .cells) (indexOf (s .pen .place)) (stroke (s .pen) a d .cell) blankOf
+    (omega (arith, h .thousand, index-low (h .pen .place)))
+    in
+    (ap (λ (c : Cell). c .set) e, ap (λ (c : Cell). c .code) e)
+
 -- ---- any value
 
 untouched : (s : Screen) (p : Pen) (o : Asked) (n : ℕ) (x : Place) → On (s .pen .place) → On x
@@ -111,7 +124,7 @@ others-stay s b x h k e f =
 -- ---- FF
 
 -- the screen after an obeyed FF
-ff-cells : (s : Screen) → isSeparator (s .pen .sequence) ≡ false → advanced s 12 .cells ≡ cleared (s .cells)
+ff-cells : (s : Screen) → (s .pen .sequence ≡ Separator → ⊥) → advanced s 12 .cells ≡ cleared (s .cells)
 unfolding obeyed applied
 ff-cells s e =
     ap (λ (x : Screen). x .cells)
@@ -136,9 +149,5 @@ pub ff-cell : (s : Screen) (b : ℕ) (x : Place) → InScreen s → On x → cle
 ff-cell s b x h k e =
     let t = each (eqb b 12 ∷ not (isSeparator (s .pen .sequence)) ∷ []) e in
     ap (λ (c : ℕ). cellAt (advanced s c) x) (eqb-true b 12 (t .0))
-    ∙ ap (λ (cs : List Cell). getD cs (indexOf x) blankOf) (ff-cells s (not-true (isSeparator (s .pen .sequence)) (t .1)))
+    ∙ ap (λ (cs : List Cell). getD cs (indexOf x) blankOf) (ff-cells s (λ q. fails (ap (λ (u : Sequence). not (isSeparator u)) q) (holds (t .1))))
     ∙ by-row s x (eqb (x .row) 0) h k refl
-  where
-    not-true : (t : Bool) → not t ≡ true → t ≡ false
-    not-true true e = absurd (holds e)
-    not-true false e = refl

@@ -1,5 +1,5 @@
 -- What each call answers and hands back, for any state and any values (01, "Numbers given"). Assumes nothing.
-use mathlib.Core.Bool.{Bool, true, false, cond, not}
+use mathlib.Core.Bool.{false, cond}
 use mathlib.Core.List.{List, [], _∷_}
 use Prim.Native.Nat.{ℕ}
 use lib.Dec.{ltb, eqb}
@@ -18,7 +18,7 @@ use Rattle.screen.specs.declared.Read.the-variants.{Broken as Unread, Of
 use Rattle.screen.specs.declared.Cursor.{Cursor}
 use Rattle.screen.specs.declared.Cursor.the-variants.{Broken as Lost, Hidden, Shown}
 use Rattle.screen.specs.Screens.{cellAt, advanced, advancedBy}
-use Rattle.screen.specs.Ranges.{inRange}
+use Rattle.screen.specs.Ranges.{broken}
 
 -- the number of each answer, and what it names
 abbrev pub told : Answer → Told
@@ -34,7 +34,7 @@ stepsTo s a = record { screen = s; answer = a }
 -- "broken state .. that state handed back"; "value too large .. state unchanged"
 unfoldable pub stepped : Screen → ℕ → Stepped
 stepped s b =
-    cond (inRange s) (cond (ltb 127 b) (stepsTo s (TooLarge 0)) (stepsTo (advanced s b) Taken)) (stepsTo s Broken)
+    cond (broken s) (stepsTo s Broken) (cond (ltb 127 b) (stepsTo s (TooLarge 0)) (stepsTo (advanced s b) Taken))
 
 -- ---- a piece of values
 
@@ -43,16 +43,15 @@ runsTo s a = record { screen = s; answer = a }
 
 unfoldable pub ran : Screen → List ℕ → Ran
 ran s vs =
-    cond (inRange s)
+    cond (broken s) (runsTo s Broken)
     (cond (ltb (firstLarge vs) (length vs)) (runsTo s (TooLarge (firstLarge vs))) (runsTo (advancedBy s vs) Taken))
-    (runsTo s Broken)
 
 -- "a state handed in lies outside the ranges this page gives"; "a value handed to .. screen .. is above 127"
 abbrev pub runConditions : Screen → List ℕ → Conditions
 runConditions s vs =
     record {
       wrongLength = false;
-      brokenState = not (inRange s);
+      brokenState = broken s;
       tooLarge = ltb (firstLarge vs) (length vs);
       noRoom = false;
       repeat = false;
@@ -70,7 +69,7 @@ runTold s vs =
 
 -- a place off the screen has an answer of its own
 unfoldable pub read : Screen → ℕ → ℕ → Read
-read s r c = cond (inRange s) (cond (onScreen (at r c)) (There (cellAt s (at r c))) Off) Unread
+read s r c = cond (broken s) Unread (cond (onScreen (at r c)) (There (cellAt s (at r c))) Off)
 
 unfoldable pub pointed : Screen → Cursor
-pointed s = cond (inRange s) (cond (s .pen .shown) (Shown (s .pen .place)) (Hidden (s .pen .place))) Lost
+pointed s = cond (broken s) Lost (cond (s .pen .shown) (Shown (s .pen .place)) (Hidden (s .pen .place)))

@@ -6,7 +6,7 @@
 // call answers and hands back; proofs/ holds their laws.
 ghost use mathlib.Core.Path.{_≡_};
 ghost use Rattle.screen.specs.Screens.{freshScreen};
-ghost use Rattle.screen.specs.Calls.{stepped, ran};
+ghost use Rattle.screen.specs.Calls.{stepped};
 
 mod drawing;
 mod pieces;
@@ -71,53 +71,25 @@ impl Screen {
     pub fn step(self, value: u8) -> Stepped
         ensures { λ r. ⌜ r ≡ stepped self value ⌝ }
     {
-        if self.in_range() {
-            if 127 < value {
-                Stepped {
-                    screen: self,
-                    answer: Answer::TooLarge(0),
-                }
-            } else {
-                let plan = self.pen.plan(value);
-                let pen = plan.pen;
-                let asked = plan.asked;
-                let screen = self.apply(pen, asked);
-                Stepped {
-                    screen,
-                    answer: Answer::Taken,
-                }
-            }
-        } else {
-            Stepped {
+        if self.is_broken() {
+            return Stepped {
                 screen: self,
                 answer: Answer::Broken,
-            }
+            };
         }
-    }
-
-    // A piece of values: all of them or, where the state is broken or a value is above 127, none.
-    pub fn run(self, values: &[u8]) -> Ran
-        ensures { λ r. ⌜ r ≡ ran self (now (values .entry)) ⌝ }
-    {
-        if self.in_range() {
-            let at = values::first_large(values);
-            if at < values.len() {
-                Ran {
-                    screen: self,
-                    answer: Answer::TooLarge(at),
-                }
-            } else {
-                let screen = self.advance(values);
-                Ran {
-                    screen,
-                    answer: Answer::Taken,
-                }
-            }
-        } else {
-            Ran {
+        if 127 < value {
+            return Stepped {
                 screen: self,
-                answer: Answer::Broken,
-            }
+                answer: Answer::TooLarge(0),
+            };
+        }
+        let plan = self.pen.plan(value);
+        let pen = plan.pen;
+        let asked = plan.asked;
+        let screen = self.apply(pen, asked);
+        Stepped {
+            screen,
+            answer: Answer::Taken,
         }
     }
 }

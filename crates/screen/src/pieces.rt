@@ -1,5 +1,5 @@
-// A piece of values on a screen in range. The pen is carried beside the cells, and a single character is stored in
-// place: no value but FF and REP copies the thousand cells.
+// A piece of values. The range is tested once; then the pen is carried beside the cells, and a single character is
+// stored in place: no value but FF and REP copies the thousand cells.
 ghost use mathlib.Core.Path.{_≡_};
 ghost use mathlib.Core.Bool.{true};
 ghost use Prim.Native.Nat.{_≤_};
@@ -8,6 +8,9 @@ ghost use Rattle.pen.specs.Pens.{inRange as penInRange};
 ghost use Rattle.pen.specs.Planning.{planned};
 ghost use Rattle.screen.specs.Screens.{advancedBy};
 ghost use Rattle.screen.specs.Ranges.{inRange};
+ghost use Rattle.screen.specs.Calls.{ran};
+use crate::Answer;
+use crate::Ran;
 use crate::Screen;
 use crate::drawing::index;
 use pen::Asked;
@@ -38,7 +41,7 @@ fn plan_quickly(pen: Pen, value: u8) -> Plan
 }
 
 impl Screen {
-    pub(crate) fn advance(self, values: &[u8]) -> Screen
+    fn advance(self, values: &[u8]) -> Screen
         requires { ⌜ inRange self ≡ true ⌝ }
         requires { ⌜ Values (now values) ⌝ }
         ensures { λ r. ⌜ r ≡ advancedBy self (now (values .entry)) ⌝ }
@@ -77,5 +80,29 @@ impl Screen {
             }
         }
         screen.with_pen(pen)
+    }
+
+    // A piece of values: all of them or, where the state is broken or a value is above 127, none.
+    pub fn run(self, values: &[u8]) -> Ran
+        ensures { λ r. ⌜ r ≡ ran self (now (values .entry)) ⌝ }
+    {
+        if self.is_broken() {
+            return Ran {
+                screen: self,
+                answer: Answer::Broken,
+            };
+        }
+        let at = values::first_large(values);
+        if at < values.len() {
+            return Ran {
+                screen: self,
+                answer: Answer::TooLarge(at),
+            };
+        }
+        let screen = self.advance(values);
+        Ran {
+            screen,
+            answer: Answer::Taken,
+        }
     }
 }

@@ -1,17 +1,18 @@
-// Whether a screen lies in the ranges of the page.
+// Whether a screen lies outside the ranges of the page.
 ghost use mathlib.Core.Path.{_≡_};
-ghost use Rattle.screen.specs.Ranges.{inRange};
+ghost use Rattle.screen.specs.Ranges.{broken};
 use crate::Screen;
 
 impl Screen {
-    pub(crate) fn in_range(self) -> bool
-        ensures { λ r. ⌜ r ≡ inRange self ⌝ }
+    pub(crate) fn is_broken(self) -> bool
+        ensures { λ r. ⌜ r ≡ broken self ⌝ }
     {
         if self.pen.in_range() {
             let cells = self.cells;
-            cells::in_range(cells)
-        } else {
-            false
+            if cells::in_range(cells) {
+                return false;
+            }
         }
+        true
     }
 }

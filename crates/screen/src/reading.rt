@@ -12,33 +12,29 @@ impl Screen {
     pub fn cell(self, row: u8, column: u8) -> Read
         ensures { λ r. ⌜ r ≡ read self row column ⌝ }
     {
-        if self.in_range() {
-            let place = Place { row, column };
-            if place.on_screen() {
-                let at = index(place);
-                let cell = self.cells[at];
-                Read::There(cell)
-            } else {
-                Read::Off
-            }
-        } else {
-            Read::Broken
+        if self.is_broken() {
+            return Read::Broken;
         }
+        let place = Place { row, column };
+        if place.on_screen() {
+            let at = index(place);
+            let cell = self.cells[at];
+            return Read::There(cell);
+        }
+        Read::Off
     }
 
     // Where the cursor is, and whether it is shown.
     pub fn cursor(self) -> Cursor
         ensures { λ r. ⌜ r ≡ pointed self ⌝ }
     {
-        if self.in_range() {
-            let place = self.pen.place;
-            if self.pen.shown {
-                Cursor::Shown(place)
-            } else {
-                Cursor::Hidden(place)
-            }
-        } else {
-            Cursor::Broken
+        if self.is_broken() {
+            return Cursor::Broken;
         }
+        let place = self.pen.place;
+        if self.pen.shown {
+            return Cursor::Shown(place);
+        }
+        Cursor::Hidden(place)
     }
 }

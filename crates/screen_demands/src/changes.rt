@@ -8,7 +8,6 @@ ghost use lib.Dec.{eqb};
 ghost use Rattle.cursor.specs.declared.Place.{Place};
 ghost use Rattle.cursor.specs.Moves.{On};
 ghost use Rattle.sequences.specs.declared.Sequence.the-variants.{Free, Separator, Repeat};
-ghost use Rattle.sequences.specs.Hearing.{isSeparator};
 ghost use Rattle.cells.specs.Characters.{blankOf};
 ghost use Rattle.attributes.specs.declared.Attributes.{Attributes};
 ghost use Rattle.attributes.specs.declared.Waiting.the-variants.{Ground};
@@ -39,12 +38,14 @@ pub fn only_characters_and_ff_change_a_cell()
         → cellAt (advanced s b) x ≡ cond (eqb (x .row) 0) (cellAt s x) blankOf) ⌝ }
 {}
 
-// With nothing unfinished, a code from 2/0 is one character of the current set. REP n, n from 4/0, is n minus 64 such
+// With nothing unfinished, a code from 2/0 is one character of the current set, at the cursor's place. REP n, n from 4/0, is n minus 64 such
 // characters, one after the other: the last one written, its own set and code, with the attributes of the moment. With
 // no last character, or n from 2/0 to 3/F, nothing but the sequence ends.
 pub fn rep_is_single_characters()
     ensures one { λ _. ⌜ ((s : Screen) (b : ℕ) → s .pen .sequence ≡ Free → 32 ≤ b
         → advanced s b ≡ written s (s .pen .attributes .set) b) ⌝ }
+    ensures there { λ _. ⌜ ((s : Screen) (a d : ℕ) → InScreen s → (cellAt (written s a d) (s .pen .place) .set ≡ a)
+        × (cellAt (written s a d) (s .pen .place) .code ≡ d)) ⌝ }
     ensures again { λ _. ⌜ ((s : Screen) (a d n : ℕ) → s .pen .sequence ≡ Repeat → s .pen .last ≡ Character a d → 64 ≤ n
         → advanced s n ≡ writtenTimes (ended s) a d (n - 64)) ⌝ }
     ensures never { λ _. ⌜ ((s : Screen) (n : ℕ) → s .pen .sequence ≡ Repeat → s .pen .last ≡ Never → 64 ≤ n
@@ -57,7 +58,7 @@ pub fn rep_is_single_characters()
 // after SEP, which drops one code, whatever it is.
 pub fn a_c0_code_ends_a_sequence()
     ensures nul { λ _. ⌜ ((s : Screen) → advanced s 0 ≡ s) ⌝ }
-    ensures { λ _. ⌜ ((s : Screen) (b : ℕ) → isSeparator (s .pen .sequence) ≡ false → 1 ≤ b → b ≤ 31
+    ensures { λ _. ⌜ ((s : Screen) (b : ℕ) → (s .pen .sequence ≡ Separator → ⊥) → 1 ≤ b → b ≤ 31
         → advanced s b ≡ advanced (ended s) b) ⌝ }
     ensures separated { λ _. ⌜ ((s : Screen) (b : ℕ) → s .pen .sequence ≡ Separator → 1 ≤ b → advanced s b ≡ ended s) ⌝ }
 {}

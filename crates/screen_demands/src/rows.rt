@@ -1,12 +1,11 @@
 // Demand 2 on row 0: how it is entered and left, and what LF brings back.
 ghost use mathlib.Core.Path.{_≡_};
-ghost use mathlib.Core.Bool.{false};
 ghost use mathlib.Core.List.{List, [], _∷_};
 ghost use Prim.Native.Nat.{ℕ, _≤_};
 ghost use Rattle.cursor.specs.declared.Place.{Place};
 ghost use Rattle.cursor.specs.Moves.{leftOf, rightOf, upOf, downOf, firstOf};
 ghost use Rattle.cursor.specs.Rows.{SameSide};
-ghost use Rattle.sequences.specs.Hearing.{isSeparator};
+ghost use Rattle.sequences.specs.declared.Sequence.the-variants.{Separator};
 ghost use Rattle.screen.specs.declared.Screen.{Screen};
 ghost use Rattle.screen.specs.Screens.{freshScreen, advanced, advancedBy};
 ghost use Rattle.screen.specs.Claims.{enteringRow0, StaysInRow0};
@@ -23,10 +22,10 @@ pub fn no_move_crosses_into_row_0()
 // attributes, with what waits, are those just before the US, and no cell changes at the LF. Values that meet this exist:
 // a letter and CR on a fresh screen.
 pub fn lf_returns_from_row_0()
-    ensures { λ _. ⌜ ((s : Screen) (i j c : ℕ) (bs : List ℕ) → isSeparator (s .pen .sequence) ≡ false
+    ensures { λ _. ⌜ ((s : Screen) (i j c : ℕ) (bs : List ℕ) → (s .pen .sequence ≡ Separator → ⊥)
         → 1 ≤ s .pen .place .row → 65 ≤ c → c ≤ 104
         → let e = advancedBy s (enteringRow0 i j c) in let f = advancedBy e bs in
-        StaysInRow0 e bs → isSeparator (f .pen .sequence) ≡ false
+        StaysInRow0 e bs → (f .pen .sequence ≡ Separator → ⊥)
         → (advanced f 10 .pen .place ≡ s .pen .place) × (advanced f 10 .pen .attributes ≡ s .pen .attributes)
         × (advanced f 10 .cells ≡ f .cells)) ⌝ }
     ensures met { λ _. ⌜ StaysInRow0 (advancedBy freshScreen (enteringRow0 1 0 65)) (65 ∷ 13 ∷ []) ⌝ }

@@ -11,7 +11,7 @@ ghost use Rattle.screen.specs.declared.Answer.the-variants.{TooLarge, Broken};
 ghost use Rattle.screen.specs.declared.Read.the-variants.{Broken as Unread};
 ghost use Rattle.screen.specs.declared.Cursor.the-variants.{Broken as Lost};
 ghost use Rattle.screen.specs.Screens.{freshScreen};
-ghost use Rattle.screen.specs.Ranges.{inRange, InScreen};
+ghost use Rattle.screen.specs.Ranges.{broken, InScreen};
 ghost use Rattle.screen.specs.Calls.{told, stepsTo, stepped, runsTo, ran, runTold, read, pointed};
 
 // A call's number, and the place that it names, come of the paper's conditions in their order: 5 for a state outside
@@ -20,10 +20,10 @@ ghost use Rattle.screen.specs.Calls.{told, stepsTo, stepped, runsTo, ran, runTo
 pub fn each_call_gives_its_number()
     ensures runs { λ _. ⌜ ((s : Screen) (vs : List ℕ) → told (ran s vs .answer) ≡ runTold s vs) ⌝ }
     ensures steps { λ _. ⌜ ((s : Screen) (b : ℕ) → told (stepped s b .answer) ≡ runTold s (b ∷ [])) ⌝ }
-    ensures broken { λ _. ⌜ ((s : Screen) → inRange s ≡ false → ((b : ℕ) → stepped s b ≡ stepsTo s Broken)
+    ensures broken { λ _. ⌜ ((s : Screen) → broken s ≡ true → ((b : ℕ) → stepped s b ≡ stepsTo s Broken)
         × ((vs : List ℕ) → ran s vs ≡ runsTo s Broken)
         × ((r c : ℕ) → read s r c ≡ Unread) × (pointed s ≡ Lost)) ⌝ }
-    ensures large { λ _. ⌜ ((s : Screen) → inRange s ≡ true
+    ensures large { λ _. ⌜ ((s : Screen) → broken s ≡ false
         → ((b : ℕ) → 127 < b → stepped s b ≡ stepsTo s (TooLarge 0))
         × ((vs : List ℕ) → firstLarge vs < length vs → ran s vs ≡ runsTo s (TooLarge (firstLarge vs)))) ⌝ }
 {}
@@ -33,6 +33,6 @@ pub fn each_call_gives_its_number()
 pub fn every_step_keeps_the_range()
     ensures anew { λ _. ⌜ InScreen freshScreen ⌝ }
     ensures steps { λ _. ⌜ ((s : Screen) → InScreen s → (b : ℕ) → b ≤ 127 → InScreen (stepped s b .screen)) ⌝ }
-    ensures tested { λ _. ⌜ ((s : Screen) → InScreen s → inRange s ≡ true) ⌝ }
-    ensures passed { λ _. ⌜ ((s : Screen) → length (s .cells) ≡ 1000 → inRange s ≡ true → InScreen s) ⌝ }
+    ensures tested { λ _. ⌜ ((s : Screen) → InScreen s → broken s ≡ false) ⌝ }
+    ensures passed { λ _. ⌜ ((s : Screen) → length (s .cells) ≡ 1000 → broken s ≡ false → InScreen s) ⌝ }
 {}

@@ -9,7 +9,7 @@ use Rattle.laws.proofs.Computed.{holds, chosen}
 use Rattle.sequences.specs.declared.Sequence.{Sequence}
 use Rattle.sequences.specs.declared.Sequence.the-variants.{Free, Escape, Long, Control, Separator, Repeat}
 use Rattle.sequences.specs.declared.Sequence.the-variants.{Single, Address, Row}
-use Rattle.sequences.specs.declared.Order.the-variants.{Skip, Again}
+use Rattle.sequences.specs.declared.Order.the-variants.{Skip, Write, Again}
 use Rattle.sequences.specs.declared.Heard.{Heard}
 use Rattle.sequences.specs.Hearing.{isFree, isSeparator, does, control, followed, heard}
 
@@ -28,9 +28,25 @@ free (Row r) e = absurd (holds e)
 pub heard-code : (q : Sequence) (b : ℕ) → 31 < b → heard q b ≡ followed q b
 heard-code q b h = simp (ne-eqb b 0 (λ e. omega (arith, h, e)), lt-ltb 31 b h)
 
+-- with nothing unfinished it is a character of the current set
+pub heard-text : (b : ℕ) → 31 < b → heard Free b ≡ does (Write b)
+heard-text b h = heard-code Free b h
+
+-- every sequence but SEP's own
+pub no-separator : (q : Sequence) → (q ≡ Separator → ⊥) → isSeparator q ≡ false
+no-separator Free f = refl
+no-separator Escape f = refl
+no-separator Long f = refl
+no-separator Control f = refl
+no-separator Separator f = absurd (f refl)
+no-separator Repeat f = refl
+no-separator Single f = refl
+no-separator Address f = refl
+no-separator (Row r) f = refl
+
 -- a C0 code ends a sequence and is obeyed as with nothing unfinished, except after SEP
-pub heard-control : (q : Sequence) (b : ℕ) → isSeparator q ≡ false → 1 ≤ b → b ≤ 31 → heard q b ≡ control b
-heard-control q b e l h = simp (ne-eqb b 0 (λ f. omega (arith, l, f)), le-ltb 31 b h, e)
+pub heard-control : (q : Sequence) (b : ℕ) → (q ≡ Separator → ⊥) → 1 ≤ b → b ≤ 31 → heard q b ≡ control b
+heard-control q b f l h = simp (ne-eqb b 0 (λ e. omega (arith, l, e)), le-ltb 31 b h, no-separator q f)
 
 -- after SEP one code is dropped, whatever it is
 pub heard-dropped : (b : ℕ) → 1 ≤ b → heard Separator b ≡ does Skip

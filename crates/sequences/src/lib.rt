@@ -4,8 +4,10 @@
 // `hear` takes an unfinished sequence and one value, and says what is unfinished then and what is ordered. It knows no
 // cursor, no attribute and no cell. specs/Hearing says the same, rule by rule.
 ghost use mathlib.Core.Path.{_≡_};
-ghost use Rattle.sequences.specs.Hearing.{inRange, isFree, isSeparator, order, begins, escaped};
+ghost use Rattle.sequences.specs.Hearing.{isFree, order, begins, escaped};
 ghost use Rattle.sequences.specs.Hearing.{dropped, again, single, followed, heard};
+
+mod states;
 
 // An unfinished sequence.
 pub enum Sequence {
@@ -64,31 +66,6 @@ pub struct Heard {
 }
 
 impl Sequence {
-    // Whether the rules leave such a sequence unfinished.
-    pub fn in_range(self) -> bool
-        ensures { λ r. ⌜ r ≡ inRange self ⌝ }
-    {
-        match self {
-            Sequence::Free => true,
-            Sequence::Escape => true,
-            Sequence::Long => true,
-            Sequence::Control => true,
-            Sequence::Separator => true,
-            Sequence::Repeat => true,
-            Sequence::Single => true,
-            Sequence::Address => true,
-            Sequence::Row(row) => {
-                if row < 32 {
-                    return false;
-                }
-                if 127 < row {
-                    return false;
-                }
-                true
-            }
-        }
-    }
-
     // Whether nothing is unfinished.
     pub fn is_free(self) -> bool
         ensures { λ r. ⌜ r ≡ isFree self ⌝ }
@@ -99,22 +76,6 @@ impl Sequence {
             Sequence::Long => false,
             Sequence::Control => false,
             Sequence::Separator => false,
-            Sequence::Repeat => false,
-            Sequence::Single => false,
-            Sequence::Address => false,
-            Sequence::Row(_) => false,
-        }
-    }
-
-    fn is_separator(self) -> bool
-        ensures { λ r. ⌜ r ≡ isSeparator self ⌝ }
-    {
-        match self {
-            Sequence::Free => false,
-            Sequence::Escape => false,
-            Sequence::Long => false,
-            Sequence::Control => false,
-            Sequence::Separator => true,
             Sequence::Repeat => false,
             Sequence::Single => false,
             Sequence::Address => false,

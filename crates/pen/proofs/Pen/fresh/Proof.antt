@@ -2,17 +2,13 @@ use borrow.Author.Needs.{needs}
 use Rattle.pen.proofs.Pen.fresh.Statement.{statement}
 use Rattle.pen.proofs.Pen.fresh.Tie as tie
 
--- src/lib.rt:66:13
-home-requires : tie.Need-home-requires
-home-requires c κs = search needs
-
--- src/lib.rt:67:13
+-- src/lib.rt:70:13
 start-requires : tie.Need-start-requires
 start-requires c κs = search needs
 
 -- src/lib.rt:63:5
 returns : tie.Need-returns
-returns c = simp (c .start .ensures, c .before .home .ensures)
+returns c = simp (c .start .ensures)
 
 pub fresh-spec : {M : Type 1} → statement M
-fresh-spec = tie.close (tie.spec home-requires start-requires returns)
+fresh-spec = tie.close (tie.spec start-requires returns)

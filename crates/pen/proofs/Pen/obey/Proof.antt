@@ -87,29 +87,21 @@ with-place-requires-4 c κs = search needs
 keep-cells-requires-6 : tie.Need-keep-cells-requires-6
 keep-cells-requires-6 c κs = search needs
 
--- src/orders.rt:53:36
+-- src/orders.rt:53:22
 enum-told-7 : tie.Need-enum-told-7
 enum-told-7 c = search needs
 
--- src/orders.rt:53:36
-home-requires : tie.Need-home-requires
-home-requires c κs = search needs
-
 -- src/orders.rt:53:22
-start-at-requires : tie.Need-start-at-requires
-start-at-requires c κs = search needs
+go-home-requires : tie.Need-go-home-requires
+go-home-requires c κs = search needs
 
--- src/orders.rt:56:42
+-- src/orders.rt:56:28
 enum-told-8 : tie.Need-enum-told-8
 enum-told-8 c = search needs
 
--- src/orders.rt:56:42
-home-requires-2 : tie.Need-home-requires-2
-home-requires-2 c κs = search needs
-
 -- src/orders.rt:56:28
-start-at-requires-2 : tie.Need-start-at-requires-2
-start-at-requires-2 c κs = search needs
+go-home-requires-2 : tie.Need-go-home-requires-2
+go-home-requires-2 c κs = search needs
 
 -- src/orders.rt:56:28
 keep-cells-requires-7 : tie.Need-keep-cells-requires-7
@@ -260,12 +252,12 @@ returns-6 c = simp (c .keep-cells6 .ensures, c .before .with-place4 .ensures, c 
 -- src/orders.rt:42:5
 returns-7 : tie.Need-returns-7
 unfolding obeyed
-returns-7 c = simp (c .start-at .ensures, c .before .home .ensures, c .before .before .enum-told7 .given .1)
+returns-7 c = simp (c .go-home .ensures, c .before .enum-told7 .given .1)
 
 -- src/orders.rt:42:5
 returns-8 : tie.Need-returns-8
 unfolding obeyed
-returns-8 c = simp (c .keep-cells7 .ensures, c .before .start-at2 .ensures, c .before .before .home2 .ensures, c .before .before .before .enum-told8 .given .1)
+returns-8 c = simp (c .keep-cells7 .ensures, c .before .go-home2 .ensures, c .before .before .enum-told8 .given .1)
 
 -- src/orders.rt:42:5
 returns-9 : tie.Need-returns-9
@@ -338,11 +330,9 @@ obey-spec =
     with-place-requires-4
     keep-cells-requires-6
     enum-told-7
-    home-requires
-    start-at-requires
+    go-home-requires
     enum-told-8
-    home-requires-2
-    start-at-requires-2
+    go-home-requires-2
     keep-cells-requires-7
     enum-told-9
     shift-out-requires

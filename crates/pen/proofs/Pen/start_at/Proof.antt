@@ -2,22 +2,13 @@ use borrow.Author.Needs.{needs}
 use Rattle.pen.proofs.Pen.start_at.Statement.{statement}
 use Rattle.pen.proofs.Pen.start_at.Tie as tie
 
--- src/moves.rt:56:9
-with-place-requires : tie.Need-with-place-requires
-with-place-requires c κs = search needs
-
--- src/moves.rt:56:48
+-- src/moves.rt:56:13
 start-requires : tie.Need-start-requires
 start-requires c κs = search needs
 
--- src/moves.rt:56:9
-with-attributes-requires : tie.Need-with-attributes-requires
-with-attributes-requires c κs = search needs
-
 -- src/moves.rt:53:5
 returns : tie.Need-returns
-returns c = simp (c .with-attributes .ensures, c .before .start .ensures, c .before .before .with-place .ensures)
+returns c = simp (c .start .ensures)
 
 pub start-at-spec : {M : Type 1} → statement M
-start-at-spec =
-    tie.close (tie.spec with-place-requires start-requires with-attributes-requires returns)
+start-at-spec = tie.close (tie.spec start-requires returns)

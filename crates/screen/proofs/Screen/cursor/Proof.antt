@@ -3,24 +3,24 @@ use borrow.Author.Needs.{needs}
 use Rattle.screen.proofs.Screen.cursor.Statement.{statement}
 use Rattle.screen.proofs.Screen.cursor.Tie as tie
 
--- src/reading.rt:45:12
-in-range-requires : tie.Need-in-range-requires
-in-range-requires c κs = search needs
+-- src/reading.rt:31:12
+is-broken-requires : tie.Need-is-broken-requires
+is-broken-requires c κs = search needs
 
--- src/reading.rt:42:5
+-- src/reading.rt:32:13
 returns : tie.Need-returns
 unfolding pointed
-returns c = simp (c .if2 .taken, c .before .before .if1 .taken, ← c .before .before .before .in-range .ensures)
+returns c = simp (c .if1 .taken, ← c .before .is-broken .ensures)
 
--- src/reading.rt:42:5
+-- src/reading.rt:36:13
 returns-2 : tie.Need-returns-2
 unfolding pointed
-returns-2 c = simp (c .if2 .left, c .before .before .if1 .taken, ← c .before .before .before .in-range .ensures)
+returns-2 c = simp (c .if2 .taken, c .before .before .if1 .left, ← c .before .before .before .is-broken .ensures)
 
--- src/reading.rt:42:5
+-- src/reading.rt:28:5
 returns-3 : tie.Need-returns-3
 unfolding pointed
-returns-3 c = simp (c .if1 .left, ← c .before .in-range .ensures)
+returns-3 c = simp (c .if2 .left, c .before .before .if1 .left, ← c .before .before .before .is-broken .ensures)
 
 pub cursor-spec : {M : Type 1} → statement M
-cursor-spec = tie.close (tie.spec in-range-requires returns returns-2 returns-3)
+cursor-spec = tie.close (tie.spec is-broken-requires returns returns-2 returns-3)

@@ -1,6 +1,5 @@
 -- `screen::Screen::run` meets its contract. Assumes nothing.
 use mathlib.Core.Path.{_≡_, sym, ap, _∙_, subst}
-use mathlib.Core.Bool.{true}
 use Prim.Native.Nat.{ℕ, _≤_}
 use lib.ListN.{length}
 use borrow.Author.Needs.{needs}
@@ -8,17 +7,29 @@ use Rattle.values.specs.Large.{firstLarge}
 use Rattle.values.proofs.Found.{all-small}
 use Rattle.screen.specs.declared.Screen.{Screen}
 use Rattle.screen.specs.declared.Answer.the-variants.{Taken}
-use Rattle.screen.specs.Ranges.{inRange}
 use Rattle.screen.specs.Calls.{runsTo, ran}
+use Rattle.screen.proofs.Stays.{whole}
 use Rattle.screen.proofs.Answers.{ran-large, ran-taken}
 use Rattle.screen.proofs.Screen.run.Statement.{statement}
 use Rattle.screen.proofs.Screen.run.Tie as tie
 
-in-range-requires : tie.Need-in-range-requires
-in-range-requires c κs = search needs
+is-broken-requires : tie.Need-is-broken-requires
+is-broken-requires c κs = search needs
+
+returns : tie.Need-returns
+unfolding ran
+returns c = simp (c .if1 .taken, ← c .before .is-broken .ensures)
 
 first-large-requires : tie.Need-first-large-requires
 first-large-requires c κs = search needs
+
+returns-2 : tie.Need-returns-2
+returns-2 c =
+    let f = c .before in
+    let n = f .before in
+    let a = n .before .before .before .args in
+    ran-large (a .self) (a .values .now) (sym (n .before .is-broken .ensures) ∙ n .if1 .left)
+    (f .first-large .result) (f .first-large .ensures) (c .if2 .taken)
 
 -- no value is too large
 small : (c : tie.Else2)
@@ -30,28 +41,23 @@ small c =
 
 advance-requires : tie.Need-advance-requires
 advance-requires c κs =
-    (sym (c .before .before .before .in-range .ensures) ∙ c .before .before .if1 .taken, all-small _ (small c))
-
-returns : tie.Need-returns
-returns c =
-    let f = c .before in
-    let s = f .before .before .before .before in
-    ran-large (s .args .self) (s .args .values .now) (sym (f .before .before .in-range .ensures) ∙ f .before .if1 .taken)
-    (f .first-large .result) (f .first-large .ensures) (c .if2 .taken)
-
-returns-2 : tie.Need-returns-2
-returns-2 c =
-    let f = c .before .before in
-    let s = f .before .before .before .before in
-    let e = sym (f .before .before .in-range .ensures) ∙ f .before .if1 .taken in
-    ap (λ (x : Screen). runsTo x Taken) (c .advance .ensures)
-    ∙ ran-taken (s .args .self) (s .args .values .now) e (small (c .before))
+    let n = c .before .before in
+    (whole _ (sym (n .before .is-broken .ensures) ∙ n .if1 .left), all-small _ (small c))
 
 returns-3 : tie.Need-returns-3
-unfolding ran
-returns-3 c = simp (c .if1 .left, ← c .before .in-range .ensures)
+returns-3 c =
+    let n = c .before .before .before in
+    let a = n .before .before .before .args in
+    ap (λ (x : Screen). runsTo x Taken) (c .advance .ensures)
+    ∙ ran-taken (a .self) (a .values .now) (sym (n .before .is-broken .ensures) ∙ n .if1 .left) (small (c .before))
 
 pub run-spec : {M : Type 1} → statement M
 run-spec =
     tie.close
-    (tie.spec in-range-requires first-large-requires advance-requires returns returns-2 returns-3)
+    (tie.spec
+    is-broken-requires
+    returns
+    first-large-requires
+    returns-2
+    advance-requires
+    returns-3)

@@ -6,9 +6,16 @@ use Rattle.screen_demands.proofs.states.each_call_gives_its_number.Stat
 use Rattle.screen_demands.proofs.states.each_call_gives_its_number.Tie as tie
 
 returns : tie.Need-returns
-returns c = 
-    (run-told, (step-told, (λ s e. (λ b. step-broken s b e, λ vs. run-broken s vs e, reads-broken s e .0, reads-broken s e .1),
-    λ s e. (λ b h. step-large s b e h, λ vs h. sym (ran-large s vs e _ refl h)))))
+returns c = (
+  run-told,
+  (
+    step-told,
+    (
+      λ s e. (λ b. step-broken s b e, λ vs. run-broken s vs e, reads-broken s e .0, reads-broken s e .1),
+      λ s e. (λ b h. step-large s b e h, λ vs h. sym (ran-large s vs e _ refl h)),
+    ),
+  ),
+)
 
 pub each-call-gives-its-number-spec : {M : Type 1} → statement M
 each-call-gives-its-number-spec = tie.close (tie.spec returns)
