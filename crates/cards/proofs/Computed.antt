@@ -13,7 +13,7 @@ use Rattle.cells.specs.Within.{goodCharacter, allGood}
 use Rattle.pen.specs.Pens.{goodSpot, inRange as penInRange}
 use Rattle.pen.specs.Obeying.{gone, obeyed}
 use Rattle.screen.specs.Screens.{freshScreen, written, writtenTimes, applied, advanced, advancedBy}
-use Rattle.screen.specs.Ranges.{inRange}
+use Rattle.screen.specs.Ranges.{inRange, broken}
 use Rattle.screen.specs.Calls.{ran}
 use Rattle.cards.specs.Cards.{Card, EachHolds, blockCards, lineCards, screenCards, cards}
 
@@ -29,7 +29,7 @@ on-the-line = ((refl, refl, refl), ((refl, refl, refl), ((refl, refl, refl), tt)
 
 on-the-screen : EachHolds screenCards
 unfolding firstLarge cleared goodCharacter allGood goodSpot penInRange gone obeyed
-    freshScreen written writtenTimes applied advanced advancedBy inRange ran
+    freshScreen written writtenTimes applied advanced advancedBy inRange broken ran
 on-the-screen = ((refl, refl, refl), ((refl, refl, refl), ((refl, refl, refl), tt)))
 
 each-append : (cs ds : List Card) → EachHolds cs → EachHolds ds → EachHolds (cs ++ ds)
