@@ -1,6 +1,6 @@
 -- While G1 is current nothing is inverse, and nothing makes it so. Assumes nothing.
 use mathlib.Core.Path.{_≡_, refl}
-use mathlib.Core.Bool.{Bool, true, false}
+use mathlib.Core.Bool.{Bool}
 use Prim.Native.Nat.{ℕ, _/_, _%_}
 use lib.Dec.{ltb, eqb}
 use borrow.Author.Tests.{eqb-false}

@@ -5,9 +5,9 @@ use Rattle.division.specs.Division.{lowBits, bits, reduce, divide, checkBits}
 use Rattle.parity.specs.Parity.{ones, even, allEven, withParity}
 use Rattle.validity.specs.Block.{codeBits, remainder, valid}
 use Rattle.validity.specs.Changed.{flip}
+use Rattle.values.specs.Large.{firstLarge}
 use Rattle.maker.specs.Making.{useful, sealed, blockOf}
 use Rattle.reader.specs.Judging.{tryFrom, verdict, left}
-use Rattle.values.specs.Large.{firstLarge}
 use Rattle.cells.specs.Characters.{cleared}
 use Rattle.cells.specs.Within.{goodCharacter, allGood}
 use Rattle.pen.specs.Pens.{goodSpot, inRange as penInRange}

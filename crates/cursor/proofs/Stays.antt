@@ -2,10 +2,10 @@
 use mathlib.Core.Path.{_≡_}
 use mathlib.Core.Bool.{true}
 use mathlib.Core.List.{[], _∷_}
-use Prim.Native.Nat.{ℕ, _+_, _-_, _≤_, _<_}
+use Prim.Native.Nat.{ℕ, _-_, _≤_}
 use native.Mathlib.Omega.{arith}
 use lib.Dec.{ltb, leb, eqb, lit≤}
-use borrow.Author.Tests.{ltb-true, ltb-false, leb-true, le-leb, eqb-true, eqb-false}
+use borrow.Author.Tests.{ltb-true, leb-true, le-leb}
 use Rattle.laws.proofs.Computed.{each, chosen}
 use Rattle.cursor.specs.declared.Place.{Place}
 use Rattle.cursor.specs.declared.Address.{Address}

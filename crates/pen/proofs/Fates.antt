@@ -1,5 +1,5 @@
 -- What becomes of a ground that waits, order by order. Assumes nothing.
-use mathlib.Core.Path.{_≡_, refl, sym, ap, ap₂, _∙_}
+use mathlib.Core.Path.{_≡_, refl, ap, _∙_}
 use mathlib.Core.Bool.{Bool, true, false, cond}
 use Prim.Native.Nat.{ℕ, zero, suc, _-_, _%_}
 use lib.Dec.{eqb}
@@ -7,18 +7,18 @@ use Rattle.laws.proofs.Computed.{chosen}
 use Rattle.cursor.specs.declared.Place.{Place}
 use Rattle.cursor.specs.declared.Address.the-variants.{Nowhere, There}
 use Rattle.cursor.specs.Moves.{at, downOf, good}
-use Rattle.attributes.specs.declared.Waiting.{Waiting}
-use Rattle.attributes.specs.declared.Waiting.the-variants.{Nothing, Ground}
-use Rattle.attributes.specs.declared.Attributes.{Attributes}
-use Rattle.attributes.specs.Attributing.{paired, grounds, namesGround}
-use Rattle.attributes.specs.Writing.{takes, taking, afterWaiting, afterWriting}
-use Rattle.attributes.proofs.Grounds.{pair-ground, pair-others}
 use Rattle.sequences.specs.declared.Sequence.{Sequence}
 use Rattle.sequences.specs.declared.Order.{Order}
 use Rattle.sequences.specs.declared.Order.the-variants.{Skip, Left, Right, Up, Down, First, Clear, Home}
 use Rattle.sequences.specs.declared.Order.the-variants.{ShiftOut, ShiftIn, Show, Hide, Pair, Go, Write}
 use Rattle.sequences.specs.declared.Order.the-variants.{Second, Again}
 use Rattle.sequences.specs.Hearing.{heard}
+use Rattle.attributes.specs.declared.Waiting.{Waiting}
+use Rattle.attributes.specs.declared.Waiting.the-variants.{Ground}
+use Rattle.attributes.specs.declared.Attributes.{Attributes}
+use Rattle.attributes.specs.Attributing.{paired, grounds, namesGround}
+use Rattle.attributes.specs.Writing.{takes, taking, afterWaiting, afterWriting}
+use Rattle.attributes.proofs.Grounds.{pair-ground, pair-others}
 use Rattle.pen.specs.declared.Last.{Last}
 use Rattle.pen.specs.declared.Last.the-variants.{Never, Character}
 use Rattle.pen.specs.declared.Pen.{Pen}

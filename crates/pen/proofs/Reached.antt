@@ -20,7 +20,6 @@ use Rattle.pen.specs.declared.Last.the-variants.{Never, Character}
 use Rattle.pen.specs.declared.Pen.{Pen}
 use Rattle.pen.specs.declared.Asked.{Asked}
 use Rattle.pen.specs.declared.Asked.the-variants.{Nothing, Blank, Put}
-use Rattle.pen.specs.declared.Plan.{Plan}
 use Rattle.pen.specs.Pens.{withSequence}
 use Rattle.pen.specs.Obeying.{again, obeyed}
 use Rattle.pen.specs.Planning.{planned}

@@ -4,29 +4,26 @@ use mathlib.Core.Bool.{Bool, true, false}
 use mathlib.Core.List.{[], _∷_}
 use Prim.Native.Nat.{ℕ, _≤_}
 use native.Mathlib.Omega.{arith}
-use lib.Dec.{ltb, eqb, lit≤}
-use borrow.Author.Tests.{ltb-true}
+use lib.Dec.{eqb, lit≤}
 use Rattle.laws.proofs.Computed.{each, chosen}
 use Rattle.cursor.specs.declared.Place.{Place}
 use Rattle.cursor.specs.declared.Address.{Address}
 use Rattle.cursor.specs.declared.Address.the-variants.{Nowhere, There}
-use Rattle.cursor.specs.Moves.{home, On, onScreen, addressed}
+use Rattle.cursor.specs.Moves.{On, onScreen, addressed}
 use Rattle.cursor.proofs.Stays.{on-true, true-on, home-on, left-on, right-on, up-on, down-on, first-on}
 use Rattle.cursor.proofs.Stays.{Leads, address-on}
-use Rattle.cells.specs.Within.{Character, InCell}
-use Rattle.cells.proofs.Stays.{character-true, true-character}
-use Rattle.attributes.specs.declared.Attributes.{Attributes}
-use Rattle.attributes.specs.Within.{good, InForce}
-use Rattle.attributes.proofs.Stays.{force-true, true-force, start-in, out-in, in-in, pair-in, write-in, cell-in}
 use Rattle.sequences.specs.declared.Sequence.{Sequence}
-use Rattle.sequences.specs.declared.Sequence.the-variants.{Free, Escape, Long, Control, Separator, Repeat}
-use Rattle.sequences.specs.declared.Sequence.the-variants.{Single, Address as Us, Row}
 use Rattle.sequences.specs.declared.Order.{Order}
 use Rattle.sequences.specs.declared.Order.the-variants.{Skip, Left, Right, Up, Down, First, Clear, Home}
 use Rattle.sequences.specs.declared.Order.the-variants.{ShiftOut, ShiftIn, Show, Hide, Pair, Go, Write}
 use Rattle.sequences.specs.declared.Order.the-variants.{Second, Again}
 use Rattle.sequences.specs.Hearing.{inRange as goodSequence, heard}
 use Rattle.sequences.proofs.Stays.{InOrder, heard-in}
+use Rattle.cells.specs.Within.{Character, InCell}
+use Rattle.cells.proofs.Stays.{character-true, true-character}
+use Rattle.attributes.specs.declared.Attributes.{Attributes}
+use Rattle.attributes.specs.Within.{good, InForce}
+use Rattle.attributes.proofs.Stays.{force-true, true-force, start-in, out-in, in-in, pair-in, write-in, cell-in}
 use Rattle.pen.specs.declared.Last.{Last}
 use Rattle.pen.specs.declared.Last.the-variants.{Never, Character as Was}
 use Rattle.pen.specs.declared.Pen.{Pen}

@@ -1,16 +1,16 @@
 -- What each order does to the pen, and what it asks of the cells (01, "Screen cells"). Assumes nothing.
-use mathlib.Core.Bool.{Bool, true, false, cond}
+use mathlib.Core.Bool.{true, false, cond}
 use Prim.Native.Nat.{ℕ}
 use lib.Dec.{eqb}
 use Rattle.cursor.specs.declared.Place.{Place}
 use Rattle.cursor.specs.declared.Address.{Address}
 use Rattle.cursor.specs.declared.Address.the-variants.{Nowhere, There}
 use Rattle.cursor.specs.Moves.{home, leftOf, rightOf, upOf, downOf, firstOf, addressed}
-use Rattle.attributes.specs.Attributing.{startOf, shiftedOut, shiftedIn, paired}
 use Rattle.sequences.specs.declared.Order.{Order}
 use Rattle.sequences.specs.declared.Order.the-variants.{Skip, Left, Right, Up, Down, First, Clear, Home}
 use Rattle.sequences.specs.declared.Order.the-variants.{ShiftOut, ShiftIn, Show, Hide, Pair, Go, Write}
 use Rattle.sequences.specs.declared.Order.the-variants.{Second, Again}
+use Rattle.attributes.specs.Attributing.{startOf, shiftedOut, shiftedIn, paired}
 use Rattle.pen.specs.declared.Last.{Last}
 use Rattle.pen.specs.declared.Last.the-variants.{Never, Character}
 use Rattle.pen.specs.declared.Pen.{Pen}

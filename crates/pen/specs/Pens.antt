@@ -1,16 +1,15 @@
 -- What a pen is: its start, its ranges (01, "Screen cells"). Assumes nothing.
 use mathlib.Core.Path.{_≡_}
 use mathlib.Core.Bool.{Bool, true, false, _&&_}
-use Prim.Native.Nat.{ℕ}
 use Rattle.cursor.specs.declared.Place.{Place}
 use Rattle.cursor.specs.Moves.{home, onScreen, On}
-use Rattle.attributes.specs.declared.Attributes.{Attributes}
-use Rattle.attributes.specs.Attributing.{startOf}
-use Rattle.cells.specs.Within.{goodCharacter, Character}
-use Rattle.attributes.specs.Within.{good, InForce}
 use Rattle.sequences.specs.declared.Sequence.{Sequence}
 use Rattle.sequences.specs.declared.Sequence.the-variants.{Free}
 use Rattle.sequences.specs.Hearing.{inRange as goodSequence}
+use Rattle.cells.specs.Within.{goodCharacter, Character}
+use Rattle.attributes.specs.declared.Attributes.{Attributes}
+use Rattle.attributes.specs.Attributing.{startOf}
+use Rattle.attributes.specs.Within.{good, InForce}
 use Rattle.pen.specs.declared.Last.{Last}
 use Rattle.pen.specs.declared.Last.the-variants.{Never, Character as Was}
 use Rattle.pen.specs.declared.Pen.{Pen}

@@ -3,9 +3,9 @@ use mathlib.Core.Bool.{cond}
 use Prim.Native.Nat.{ℕ, zero, suc}
 use lib.Dec.{ltb}
 use Rattle.cursor.specs.Moves.{rightOf}
-use Rattle.attributes.specs.Writing.{written}
 use Rattle.sequences.specs.declared.Order.{Order}
 use Rattle.sequences.specs.Hearing.{heard}
+use Rattle.attributes.specs.Writing.{written}
 use Rattle.pen.specs.declared.Last.the-variants.{Character}
 use Rattle.pen.specs.declared.Pen.{Pen}
 use Rattle.pen.specs.declared.Asked.{Asked}

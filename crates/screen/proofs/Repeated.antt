@@ -1,24 +1,21 @@
 -- A character written, REP, and C0 codes within a sequence. Assumes nothing.
 use mathlib.Core.Path.{_≡_, refl, sym, ap, _∙_}
-use mathlib.Core.Bool.{true, false}
 use Prim.Native.Nat.{ℕ, _-_, _≤_, _<_}
 use Rattle.laws.proofs.Computed.{holds, fails}
 use Rattle.sequences.specs.declared.Sequence.{Sequence}
 use Rattle.sequences.specs.declared.Sequence.the-variants.{Free, Separator, Repeat}
 use Rattle.sequences.specs.declared.Order.the-variants.{Skip, Again}
-use Rattle.sequences.specs.declared.Heard.{Heard}
 use Rattle.sequences.specs.Hearing.{isFree, isSeparator, does, control, heard}
 use Rattle.sequences.proofs.Codes.{heard-control, heard-dropped, heard-repeat, heard-low}
 use Rattle.pen.specs.declared.Last.{Last}
 use Rattle.pen.specs.declared.Last.the-variants.{Never, Character}
-use Rattle.pen.specs.declared.Pen.{Pen}
 use Rattle.pen.specs.declared.Plan.{Plan}
 use Rattle.pen.specs.Pens.{withSequence}
-use Rattle.pen.specs.Obeying.{keeps, again, obeyed}
-use Rattle.pen.specs.Planning.{planned, penAfter}
+use Rattle.pen.specs.Obeying.{again, obeyed}
+use Rattle.pen.specs.Planning.{planned}
 use Rattle.pen.proofs.Plans.{plannedBy, plan-heard, plan-text}
 use Rattle.screen.specs.declared.Screen.{Screen}
-use Rattle.screen.specs.Screens.{withPen, written, writtenTimes, applied, advanced}
+use Rattle.screen.specs.Screens.{written, writtenTimes, applied, advanced}
 use Rattle.screen.specs.Claims.{ended}
 use Rattle.screen.proofs.Beside.{applied-any}
 

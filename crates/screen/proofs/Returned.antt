@@ -1,25 +1,21 @@
 -- Row 0: LF there brings back what stood just before the US that entered it. Assumes nothing.
-use mathlib.Core.Path.{_≡_, refl, sym, ap, _∙_}
-use mathlib.Core.Bool.{true, false}
+use mathlib.Core.Path.{_≡_, refl, ap, _∙_}
 use mathlib.Core.List.{List, [], _∷_, _++_}
 use Prim.Native.Nat.{ℕ, zero, suc, _-_, _≤_}
-use native.Mathlib.Omega.{arith}
 use lib.Dec.{lit≤}
 use lib.ListN.{replicate}
-use Rattle.attributes.specs.declared.Waiting.the-variants.{Ground}
-use Rattle.attributes.specs.Attributing.{grounds}
 use Rattle.sequences.specs.declared.Sequence.{Sequence}
 use Rattle.sequences.specs.declared.Sequence.the-variants.{Separator, Address, Row}
-use Rattle.sequences.specs.declared.Heard.{Heard}
 use Rattle.sequences.specs.Hearing.{control, opens}
 use Rattle.sequences.proofs.Codes.{heard-code, heard-control}
+use Rattle.attributes.specs.declared.Waiting.the-variants.{Ground}
+use Rattle.attributes.specs.Attributing.{grounds}
 use Rattle.pen.specs.declared.Pen.{Pen}
 use Rattle.pen.specs.declared.Kept.{Kept}
 use Rattle.pen.specs.declared.Asked.{Asked}
 use Rattle.pen.specs.declared.Asked.the-variants.{Nothing, Blank, Put}
-use Rattle.pen.specs.declared.Plan.{Plan}
 use Rattle.pen.specs.Pens.{withSequence}
-use Rattle.pen.specs.Obeying.{keeps, obeyed}
+use Rattle.pen.specs.Obeying.{obeyed}
 use Rattle.pen.specs.Planning.{ordered, planned, afterTimes, finished, penAfter}
 use Rattle.pen.specs.Grounds.{fate, outcome}
 use Rattle.pen.proofs.Plans.{plan-heard}
@@ -28,7 +24,6 @@ use Rattle.pen.proofs.Row0.{kept-stays, entered, enters, lf-back}
 use Rattle.screen.specs.declared.Screen.{Screen}
 use Rattle.screen.specs.Screens.{withPen, written, writtenTimes, applied, advanced, advancedBy}
 use Rattle.screen.specs.Claims.{enteringRow0, StaysInRow0, done, next}
-use Rattle.screen.proofs.Steps.{by-append}
 use Rattle.screen.proofs.Repeated.{step-plan, nul-step}
 
 -- ---- the pen after one value

@@ -6,7 +6,6 @@ use lib.Dec.{ltb, eqb}
 use lib.ListN.{length}
 use Rattle.numbers.specs.Numbers.{Conditions, numberOf, Told}
 use Rattle.values.specs.Large.{firstLarge}
-use Rattle.cursor.specs.declared.Place.{Place}
 use Rattle.cursor.specs.Moves.{at, onScreen}
 use Rattle.screen.specs.declared.Screen.{Screen}
 use Rattle.screen.specs.declared.Answer.{Answer}

@@ -1,30 +1,32 @@
+-- `sequences::begun` meets its contract. Assumes nothing.
 use borrow.Author.Tests.{ne-eqb}
 use Rattle.sequences.proofs.begun.Statement.{statement}
 use Rattle.sequences.proofs.begun.Tie as tie
 
--- src/lib.rt:147:1
 returns : tie.Need-returns
 returns c = simp (c .match .keys1)
 
--- src/lib.rt:147:1
 returns-2 : tie.Need-returns-2
 returns-2 c = simp (c .match .keys2)
 
--- src/lib.rt:147:1
 returns-3 : tie.Need-returns-3
 returns-3 c = simp (c .match .keys3)
 
--- src/lib.rt:147:1
 returns-4 : tie.Need-returns-4
 returns-4 c = simp (c .match .keys4)
 
--- src/lib.rt:147:1
 returns-5 : tie.Need-returns-5
 returns-5 c = simp (c .match .keys5)
 
--- src/lib.rt:147:1
 returns-6 : tie.Need-returns-6
-returns-6 c = simp (ne-eqb _ _ (c .match .rest .1), ne-eqb _ _ (c .match .rest .0 .1), ne-eqb _ _ (c .match .rest .0 .0 .1), ne-eqb _ _ (c .match .rest .0 .0 .0 .1), ne-eqb _ _ (c .match .rest .0 .0 .0 .0 .1))
+returns-6 c =
+    simp (
+      ne-eqb _ _ (c .match .rest .1),
+      ne-eqb _ _ (c .match .rest .0 .1),
+      ne-eqb _ _ (c .match .rest .0 .0 .1),
+      ne-eqb _ _ (c .match .rest .0 .0 .0 .1),
+      ne-eqb _ _ (c .match .rest .0 .0 .0 .0 .1),
+    )
 
 pub begun-spec : {M : Type 1} → statement M
 begun-spec = tie.close (tie.spec returns returns-2 returns-3 returns-4 returns-5 returns-6)

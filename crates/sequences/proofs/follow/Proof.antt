@@ -1,96 +1,74 @@
+-- `sequences::follow` meets its contract. Assumes nothing.
 use borrow.Author.Needs.{needs}
 use Rattle.sequences.proofs.follow.Statement.{statement}
 use Rattle.sequences.proofs.follow.Tie as tie
 
--- src/lib.rt:242:23
 enum-told : tie.Need-enum-told
 enum-told c = search needs
 
--- src/lib.rt:245:29
 enum-told-2 : tie.Need-enum-told-2
 enum-told-2 c = search needs
 
--- src/lib.rt:245:29
 pair-requires : tie.Need-pair-requires
 pair-requires c κs = search needs
 
--- src/lib.rt:246:27
 enum-told-3 : tie.Need-enum-told-3
 enum-told-3 c = search needs
 
--- src/lib.rt:246:27
 skip-requires : tie.Need-skip-requires
 skip-requires c κs = search needs
 
--- src/lib.rt:247:30
 enum-told-4 : tie.Need-enum-told-4
 enum-told-4 c = search needs
 
--- src/lib.rt:247:30
 skip-requires-2 : tie.Need-skip-requires-2
 skip-requires-2 c κs = search needs
 
--- src/lib.rt:249:23
 enum-told-5 : tie.Need-enum-told-5
 enum-told-5 c = search needs
 
--- src/lib.rt:252:29
 enum-told-6 : tie.Need-enum-told-6
 enum-told-6 c = search needs
 
--- src/lib.rt:252:29
 repeat-requires : tie.Need-repeat-requires
 repeat-requires c κs = search needs
 
--- src/lib.rt:253:29
 enum-told-7 : tie.Need-enum-told-7
 enum-told-7 c = search needs
 
--- src/lib.rt:253:29
 second-requires : tie.Need-second-requires
 second-requires c κs = search needs
 
--- src/lib.rt:255:23
 enum-told-8 : tie.Need-enum-told-8
 enum-told-8 c = search needs
 
--- src/lib.rt:258:23
 enum-known-sequence : tie.Need-enum-known-sequence
 enum-known-sequence c = search needs
 
--- src/lib.rt:237:1
 returns : tie.Need-returns
 returns c = simp (c .enum-told .given .1)
 
--- src/lib.rt:237:1
 returns-2 : tie.Need-returns-2
 returns-2 c = simp (c .pair .ensures, c .before .enum-told2 .given .1)
 
--- src/lib.rt:237:1
 returns-3 : tie.Need-returns-3
 returns-3 c = simp (c .skip .ensures, c .before .enum-told3 .given .1)
 
--- src/lib.rt:237:1
 returns-4 : tie.Need-returns-4
 returns-4 c = simp (c .skip2 .ensures, c .before .enum-told4 .given .1)
 
--- src/lib.rt:237:1
 returns-5 : tie.Need-returns-5
 returns-5 c = simp (c .enum-told5 .given .1)
 
--- src/lib.rt:237:1
 returns-6 : tie.Need-returns-6
 returns-6 c = simp (c .repeat .ensures, c .before .enum-told6 .given .1)
 
--- src/lib.rt:237:1
 returns-7 : tie.Need-returns-7
 returns-7 c = simp (c .second .ensures, c .before .enum-told7 .given .1)
 
--- src/lib.rt:237:1
 returns-8 : tie.Need-returns-8
 returns-8 c = simp (c .enum-told8 .given .1)
 
--- src/lib.rt:237:1
 returns-9 : tie.Need-returns-9
 returns-9 c = simp (c .before .sequence .given .1)
 

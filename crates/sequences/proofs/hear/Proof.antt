@@ -1,39 +1,51 @@
-use borrow.Author.Tests.{eq-eqb, le-leb, le-ltb, lt-leb, lt-ltb, ne-eqb}
+-- `sequences::hear` meets its contract. Assumes nothing.
+use borrow.Author.Tests.{eq-eqb, le-ltb, lt-ltb, ne-eqb}
 use borrow.Author.Needs.{needs}
 use Rattle.sequences.proofs.hear.Statement.{statement}
 use Rattle.sequences.proofs.hear.Tie as tie
 
--- src/lib.rt:292:9
 returns : tie.Need-returns
 returns c = simp (eq-eqb _ _ (c .if1 .taken))
 
--- src/lib.rt:298:9
 follow-requires : tie.Need-follow-requires
 follow-requires c κs = search needs
 
--- src/lib.rt:298:9
 returns-2 : tie.Need-returns-2
-returns-2 c = simp (c .follow .ensures, lt-ltb _ _ (c .before .if2 .taken), lt-leb _ _ (c .before .if2 .taken), ne-eqb _ _ (c .before .before .if1 .left))
+returns-2 c =
+    simp (
+      c .follow .ensures,
+      lt-ltb _ _ (c .before .if2 .taken),
+      ne-eqb _ _ (c .before .before .if1 .left),
+    )
 
--- src/lib.rt:300:8
 is-separator-requires : tie.Need-is-separator-requires
 is-separator-requires c κs = search needs
 
--- src/lib.rt:301:9
 returns-3 : tie.Need-returns-3
-returns-3 c = simp (c .if3 .taken, ← c .before .is-separator .ensures, le-ltb _ _ (c .before .before .if2 .left), le-leb _ _ (c .before .before .if2 .left), ne-eqb _ _ (c .before .before .before .if1 .left))
+returns-3 c =
+    simp (
+      c .if3 .taken,
+      ← c .before .is-separator .ensures,
+      le-ltb _ _ (c .before .before .if2 .left),
+      ne-eqb _ _ (c .before .before .before .if1 .left),
+    )
 
--- src/lib.rt:306:9
 begun-requires : tie.Need-begun-requires
 begun-requires c κs = search needs
 
--- src/lib.rt:309:16
 ordered-requires : tie.Need-ordered-requires
 ordered-requires c κs = search needs
 
--- src/lib.rt:288:1
 returns-4 : tie.Need-returns-4
-returns-4 c = simp (c .ordered .ensures, c .before .begun .ensures, c .before .before .if3 .left, ← c .before .before .before .is-separator .ensures, le-ltb _ _ (c .before .before .before .before .if2 .left), le-leb _ _ (c .before .before .before .before .if2 .left), ne-eqb _ _ (c .before .before .before .before .before .if1 .left))
+returns-4 c =
+    simp (
+      c .ordered .ensures,
+      c .before .begun .ensures,
+      c .before .before .if3 .left,
+      ← c .before .before .before .is-separator .ensures,
+      le-ltb _ _ (c .before .before .before .before .if2 .left),
+      ne-eqb _ _ (c .before .before .before .before .before .if1 .left),
+    )
 
 pub hear-spec : {M : Type 1} → statement M
 hear-spec =

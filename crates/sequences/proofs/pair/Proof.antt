@@ -1,18 +1,16 @@
-use borrow.Author.Tests.{eq-eqb, le-leb, le-ltb, lt-leb, lt-ltb, ne-eqb}
+-- `sequences::pair` meets its contract. Assumes nothing.
+use borrow.Author.Tests.{eq-eqb, le-ltb, lt-ltb, ne-eqb}
 use Rattle.sequences.proofs.pair.Statement.{statement}
 use Rattle.sequences.proofs.pair.Tie as tie
 
--- src/lib.rt:165:9
 returns : tie.Need-returns
-returns c = simp (lt-ltb _ _ (c .if1 .taken), lt-leb _ _ (c .if1 .taken))
+returns c = simp (lt-ltb _ _ (c .if1 .taken))
 
--- src/lib.rt:171:9
 returns-2 : tie.Need-returns-2
-returns-2 c = simp (eq-eqb _ _ (c .if2 .taken), le-ltb _ _ (c .before .if1 .left), le-leb _ _ (c .before .if1 .left))
+returns-2 c = simp (eq-eqb _ _ (c .if2 .taken), le-ltb _ _ (c .before .if1 .left))
 
--- src/lib.rt:161:1
 returns-3 : tie.Need-returns-3
-returns-3 c = simp (ne-eqb _ _ (c .if2 .left), le-ltb _ _ (c .before .if1 .left), le-leb _ _ (c .before .if1 .left))
+returns-3 c = simp (ne-eqb _ _ (c .if2 .left), le-ltb _ _ (c .before .if1 .left))
 
 pub pair-spec : {M : Type 1} → statement M
 pair-spec = tie.close (tie.spec returns returns-2 returns-3)

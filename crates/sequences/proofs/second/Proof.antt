@@ -1,12 +1,11 @@
+-- `sequences::second` meets its contract. Assumes nothing.
 use borrow.Author.Tests.{eq-eqb, ne-eqb}
 use Rattle.sequences.proofs.second.Statement.{statement}
 use Rattle.sequences.proofs.second.Tie as tie
 
--- src/lib.rt:247:9
 returns : tie.Need-returns
 returns c = simp (eq-eqb _ _ (c .if1 .taken))
 
--- src/lib.rt:243:1
 returns-2 : tie.Need-returns-2
 returns-2 c = simp (ne-eqb _ _ (c .if1 .left))
 

@@ -1,31 +1,43 @@
-use borrow.Author.Tests.{eq-eqb, le-leb, le-ltb, lt-leb, lt-ltb, ne-eqb}
+-- `attributes::Attributes::column_five` meets its contract. Assumes nothing.
+use borrow.Author.Tests.{eq-eqb, le-ltb, lt-ltb, ne-eqb}
 use borrow.Author.Needs.{needs}
 use Rattle.attributes.proofs.Attributes.column_five.Statement.{statement}
 use Rattle.attributes.proofs.Attributes.column_five.Tie as tie
 
--- src/lib.rt:147:13
 waiting-for-requires : tie.Need-waiting-for-requires
 waiting-for-requires c κs = search needs
 
--- src/lib.rt:147:13
 returns : tie.Need-returns
-returns c = simp (c .waiting-for .ensures, lt-ltb _ _ (c .before .if1 .taken), lt-leb _ _ (c .before .if1 .taken))
+returns c = simp (c .waiting-for .ensures, lt-ltb _ _ (c .before .if1 .taken))
 
--- src/lib.rt:151:13
 returns-2 : tie.Need-returns-2
-returns-2 c = simp (eq-eqb _ _ (c .if2 .taken), le-ltb _ _ (c .before .if1 .left), le-leb _ _ (c .before .if1 .left))
+returns-2 c = simp (eq-eqb _ _ (c .if2 .taken), le-ltb _ _ (c .before .if1 .left))
 
--- src/lib.rt:155:17
 returns-3 : tie.Need-returns-3
-returns-3 c = simp (eq-eqb _ _ (c .if4 .taken), eq-eqb _ _ (c .before .before .if3 .taken), ne-eqb _ _ (c .before .before .before .if2 .left), le-ltb _ _ (c .before .before .before .before .if1 .left), le-leb _ _ (c .before .before .before .before .if1 .left))
+returns-3 c =
+    simp (
+      eq-eqb _ _ (c .if4 .taken),
+      eq-eqb _ _ (c .before .before .if3 .taken),
+      ne-eqb _ _ (c .before .before .before .if2 .left),
+      le-ltb _ _ (c .before .before .before .before .if1 .left),
+    )
 
--- src/lib.rt:158:13
 returns-4 : tie.Need-returns-4
-returns-4 c = simp (ne-eqb _ _ (c .if4 .left), eq-eqb _ _ (c .before .before .if3 .taken), ne-eqb _ _ (c .before .before .before .if2 .left), le-ltb _ _ (c .before .before .before .before .if1 .left), le-leb _ _ (c .before .before .before .before .if1 .left))
+returns-4 c =
+    simp (
+      ne-eqb _ _ (c .if4 .left),
+      eq-eqb _ _ (c .before .before .if3 .taken),
+      ne-eqb _ _ (c .before .before .before .if2 .left),
+      le-ltb _ _ (c .before .before .before .before .if1 .left),
+    )
 
--- src/lib.rt:143:5
 returns-5 : tie.Need-returns-5
-returns-5 c = simp (ne-eqb _ _ (c .if3 .left), ne-eqb _ _ (c .before .if2 .left), le-ltb _ _ (c .before .before .if1 .left), le-leb _ _ (c .before .before .if1 .left))
+returns-5 c =
+    simp (
+      ne-eqb _ _ (c .if3 .left),
+      ne-eqb _ _ (c .before .if2 .left),
+      le-ltb _ _ (c .before .before .if1 .left),
+    )
 
 pub column-five-spec : {M : Type 1} → statement M
 column-five-spec =

@@ -1,25 +1,21 @@
+-- `attributes::Attributes::pair` meets its contract. Assumes nothing.
 use borrow.Author.Tests.{ne-eqb}
 use borrow.Author.Needs.{needs}
 use Rattle.attributes.proofs.Attributes.pair.Statement.{statement}
 use Rattle.attributes.proofs.Attributes.pair.Tie as tie
 
--- src/lib.rt:168:18
 column-four-requires : tie.Need-column-four-requires
 column-four-requires c κs = search needs
 
--- src/lib.rt:169:18
 column-five-requires : tie.Need-column-five-requires
 column-five-requires c κs = search needs
 
--- src/lib.rt:164:5
 returns : tie.Need-returns
 returns c = simp (c .column-four .ensures, c .before .match .keys1)
 
--- src/lib.rt:164:5
 returns-2 : tie.Need-returns-2
 returns-2 c = simp (c .column-five .ensures, c .before .match .keys2)
 
--- src/lib.rt:164:5
 returns-3 : tie.Need-returns-3
 returns-3 c = simp (ne-eqb _ _ (c .match .rest .1), ne-eqb _ _ (c .match .rest .0 .1))
 

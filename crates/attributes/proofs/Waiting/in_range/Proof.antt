@@ -1,20 +1,17 @@
+-- `attributes::Waiting::in_range` meets its contract. Assumes nothing.
 use borrow.Author.Needs.{needs}
 use Rattle.attributes.proofs.Waiting.in_range.Statement.{statement}
 use Rattle.attributes.proofs.Waiting.in_range.Tie as tie
 
--- src/lib.rt:100:33
 enum-told : tie.Need-enum-told
 enum-told c = search needs
 
--- src/lib.rt:101:29
 enum-known-self : tie.Need-enum-known-self
 enum-known-self c = search needs
 
--- src/lib.rt:96:5
 returns : tie.Need-returns
 returns c = search needs
 
--- src/lib.rt:96:5
 returns-2 : tie.Need-returns-2
 returns-2 c = simp (c .before .self .given .1)
 

@@ -1,16 +1,14 @@
+-- `attributes::writing::takes_ground` meets its contract. Assumes nothing.
 use borrow.Author.Tests.{eq-eqb, ne-eqb}
 use Rattle.attributes.proofs.writing.takes_ground.Statement.{statement}
 use Rattle.attributes.proofs.writing.takes_ground.Tie as tie
 
--- src/writing.rt:14:9
 returns : tie.Need-returns
 returns c = simp (eq-eqb _ _ (c .if1 .taken))
 
--- src/writing.rt:17:9
 returns-2 : tie.Need-returns-2
 returns-2 c = simp (eq-eqb _ _ (c .if2 .taken), ne-eqb _ _ (c .before .if1 .left))
 
--- src/writing.rt:10:1
 returns-3 : tie.Need-returns-3
 returns-3 c = simp (ne-eqb _ _ (c .if2 .left), ne-eqb _ _ (c .before .if1 .left))
 

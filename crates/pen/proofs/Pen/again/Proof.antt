@@ -1,28 +1,23 @@
+-- `pen::Pen::again` meets its contract. Assumes nothing.
 use borrow.Author.Needs.{needs}
 use Rattle.pen.proofs.Pen.again.Statement.{statement}
 use Rattle.pen.proofs.Pen.again.Tie as tie
 
--- src/orders.rt:38:28
 enum-told : tie.Need-enum-told
 enum-told c = search needs
 
--- src/orders.rt:38:28
 keep-cells-requires : tie.Need-keep-cells-requires
 keep-cells-requires c κs = search needs
 
--- src/orders.rt:39:31
 enum-known-last : tie.Need-enum-known-last
 enum-known-last c = search needs
 
--- src/orders.rt:39:46
 put-requires : tie.Need-put-requires
 put-requires c κs = search needs
 
--- src/orders.rt:33:5
 returns : tie.Need-returns
 returns c = simp (c .keep-cells .ensures, c .before .enum-told .given .1)
 
--- src/orders.rt:33:5
 returns-2 : tie.Need-returns-2
 returns-2 c = simp (c .put .ensures, c .before .before .last .given .1)
 

@@ -1,50 +1,46 @@
-use Rattle.screen.specs.Screens.{applied}
+-- `screen::Screen::apply` meets its contract. Assumes nothing.
 use borrow.Author.Needs.{needs}
+use Rattle.screen.specs.Screens.{applied}
 use Rattle.screen.proofs.Screen.apply.Statement.{statement}
 use Rattle.screen.proofs.Screen.apply.Tie as tie
 
--- src/drawing.rt:59:31
 enum-told : tie.Need-enum-told
 enum-told c = search needs
 
--- src/drawing.rt:59:31
 with-pen-requires : tie.Need-with-pen-requires
 with-pen-requires c κs = search needs
 
--- src/drawing.rt:60:29
 enum-told-2 : tie.Need-enum-told-2
 enum-told-2 c = search needs
 
--- src/drawing.rt:60:29
 clear-requires : tie.Need-clear-requires
 clear-requires c κs = search needs
 
--- src/drawing.rt:61:26
 enum-known-asked : tie.Need-enum-known-asked
 enum-known-asked c = search needs
 
--- src/drawing.rt:61:48
 with-pen-requires-2 : tie.Need-with-pen-requires-2
 with-pen-requires-2 c κs = search needs
 
--- src/drawing.rt:61:48
 write-requires : tie.Need-write-requires
 write-requires c κs = rw (c .with-pen2 .ensures) (c .before .before .before .before .pre)
 
--- src/drawing.rt:54:5
 returns : tie.Need-returns
 unfolding applied
 returns c = simp (c .with-pen .ensures, c .before .enum-told .given .1)
 
--- src/drawing.rt:54:5
 returns-2 : tie.Need-returns-2
 unfolding applied
 returns-2 c = simp (c .clear .ensures, c .before .enum-told2 .given .1)
 
--- src/drawing.rt:54:5
 returns-3 : tie.Need-returns-3
 unfolding applied
-returns-3 c = simp (c .write .ensures, c .before .with-pen2 .ensures, c .before .before .before .asked .given .1)
+returns-3 c =
+    simp (
+      c .write .ensures,
+      c .before .with-pen2 .ensures,
+      c .before .before .before .asked .given .1,
+    )
 
 pub apply-spec : {M : Type 1} → statement M
 apply-spec =

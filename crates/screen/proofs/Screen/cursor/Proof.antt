@@ -1,23 +1,25 @@
-use Rattle.screen.specs.Calls.{pointed}
+-- `screen::Screen::cursor` meets its contract. Assumes nothing.
 use borrow.Author.Needs.{needs}
+use Rattle.screen.specs.Calls.{pointed}
 use Rattle.screen.proofs.Screen.cursor.Statement.{statement}
 use Rattle.screen.proofs.Screen.cursor.Tie as tie
 
--- src/reading.rt:31:12
 is-broken-requires : tie.Need-is-broken-requires
 is-broken-requires c κs = search needs
 
--- src/reading.rt:32:13
 returns : tie.Need-returns
 unfolding pointed
 returns c = simp (c .if1 .taken, ← c .before .is-broken .ensures)
 
--- src/reading.rt:36:13
 returns-2 : tie.Need-returns-2
 unfolding pointed
-returns-2 c = simp (c .if2 .taken, c .before .before .if1 .left, ← c .before .before .before .is-broken .ensures)
+returns-2 c =
+    simp (
+      c .if2 .taken,
+      c .before .before .if1 .left,
+      ← c .before .before .before .is-broken .ensures,
+    )
 
--- src/reading.rt:28:5
 returns-3 : tie.Need-returns-3
 unfolding pointed
 returns-3 c = simp (c .if2 .left, c .before .before .if1 .left, ← c .before .before .before .is-broken .ensures)

@@ -1,27 +1,35 @@
-use Rattle.screen.specs.Ranges.{inRange, broken}
+-- `screen::Screen::is_broken` meets its contract. Assumes nothing.
 use borrow.Author.Needs.{needs}
+use Rattle.screen.specs.Ranges.{inRange, broken}
 use Rattle.screen.proofs.Screen.is_broken.Statement.{statement}
 use Rattle.screen.proofs.Screen.is_broken.Tie as tie
 
--- src/ranges.rt:10:12
 in-range-requires : tie.Need-in-range-requires
 in-range-requires c κs = search needs
 
--- src/ranges.rt:12:16
 in-range-requires-2 : tie.Need-in-range-requires-2
 in-range-requires-2 c κs = search needs
 
--- src/ranges.rt:13:17
 returns : tie.Need-returns
 unfolding broken inRange
-returns c = simp (c .if2 .taken, ← c .before .in-range2 .ensures, c .before .before .before .if1 .taken, ← c .before .before .before .before .in-range .ensures)
+returns c =
+    simp (
+      c .if2 .taken,
+      ← c .before .in-range2 .ensures,
+      c .before .before .before .if1 .taken,
+      ← c .before .before .before .before .in-range .ensures,
+    )
 
--- src/ranges.rt:7:5
 returns-2 : tie.Need-returns-2
 unfolding broken inRange
-returns-2 c = simp (c .if2 .left, ← c .before .in-range2 .ensures, c .before .before .before .if1 .taken, ← c .before .before .before .before .in-range .ensures)
+returns-2 c =
+    simp (
+      c .if2 .left,
+      ← c .before .in-range2 .ensures,
+      c .before .before .before .if1 .taken,
+      ← c .before .before .before .before .in-range .ensures,
+    )
 
--- src/ranges.rt:7:5
 returns-3 : tie.Need-returns-3
 unfolding broken inRange
 returns-3 c = simp (c .if1 .left, ← c .before .in-range .ensures)

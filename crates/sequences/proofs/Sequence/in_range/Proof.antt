@@ -1,87 +1,78 @@
-use borrow.Author.Tests.{le-leb, le-ltb, lt-leb, lt-ltb}
+-- `sequences::Sequence::in_range` meets its contract. Assumes nothing.
+use borrow.Author.Tests.{le-leb, lt-leb}
 use borrow.Author.Needs.{needs}
 use Rattle.sequences.proofs.Sequence.in_range.Statement.{statement}
 use Rattle.sequences.proofs.Sequence.in_range.Tie as tie
 
--- src/lib.rt:72:31
 enum-told : tie.Need-enum-told
 enum-told c = search needs
 
--- src/lib.rt:73:33
 enum-told-2 : tie.Need-enum-told-2
 enum-told-2 c = search needs
 
--- src/lib.rt:74:31
 enum-told-3 : tie.Need-enum-told-3
 enum-told-3 c = search needs
 
--- src/lib.rt:75:34
 enum-told-4 : tie.Need-enum-told-4
 enum-told-4 c = search needs
 
--- src/lib.rt:76:36
 enum-told-5 : tie.Need-enum-told-5
 enum-told-5 c = search needs
 
--- src/lib.rt:77:33
 enum-told-6 : tie.Need-enum-told-6
 enum-told-6 c = search needs
 
--- src/lib.rt:78:33
 enum-told-7 : tie.Need-enum-told-7
 enum-told-7 c = search needs
 
--- src/lib.rt:79:34
 enum-told-8 : tie.Need-enum-told-8
 enum-told-8 c = search needs
 
--- src/lib.rt:80:27
 enum-known-self : tie.Need-enum-known-self
 enum-known-self c = search needs
 
--- src/lib.rt:82:21
 returns : tie.Need-returns
-returns c = simp (lt-ltb _ _ (c .if1 .taken), lt-leb _ _ (c .if1 .taken), c .before .before .self .given .1)
+returns c = simp (lt-leb _ _ (c .if1 .taken), c .before .before .self .given .1)
 
--- src/lib.rt:85:21
 returns-2 : tie.Need-returns-2
-returns-2 c = simp (lt-ltb _ _ (c .if2 .taken), lt-leb _ _ (c .if2 .taken), le-ltb _ _ (c .before .if1 .left), le-leb _ _ (c .before .if1 .left), c .before .before .before .self .given .1)
+returns-2 c =
+    simp (
+      lt-leb _ _ (c .if2 .taken),
+      le-leb _ _ (c .before .if1 .left),
+      c .before .before .before .self .given .1,
+    )
 
--- src/lib.rt:68:5
 returns-3 : tie.Need-returns-3
 returns-3 c = search needs
 
--- src/lib.rt:68:5
 returns-4 : tie.Need-returns-4
 returns-4 c = search needs
 
--- src/lib.rt:68:5
 returns-5 : tie.Need-returns-5
 returns-5 c = search needs
 
--- src/lib.rt:68:5
 returns-6 : tie.Need-returns-6
 returns-6 c = search needs
 
--- src/lib.rt:68:5
 returns-7 : tie.Need-returns-7
 returns-7 c = search needs
 
--- src/lib.rt:68:5
 returns-8 : tie.Need-returns-8
 returns-8 c = search needs
 
--- src/lib.rt:68:5
 returns-9 : tie.Need-returns-9
 returns-9 c = search needs
 
--- src/lib.rt:68:5
 returns-10 : tie.Need-returns-10
 returns-10 c = search needs
 
--- src/lib.rt:68:5
 returns-11 : tie.Need-returns-11
-returns-11 c = simp (le-ltb _ _ (c .if2 .left), le-leb _ _ (c .if2 .left), le-ltb _ _ (c .before .if1 .left), le-leb _ _ (c .before .if1 .left), c .before .before .before .self .given .1)
+returns-11 c =
+    simp (
+      le-leb _ _ (c .if2 .left),
+      le-leb _ _ (c .before .if1 .left),
+      c .before .before .before .self .given .1,
+    )
 
 pub in-range-spec : {M : Type 1} → statement M
 in-range-spec =
