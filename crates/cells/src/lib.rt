@@ -1,7 +1,7 @@
 // The cells of the screen (01, "Screen cells"): what a character on it is, and all thousand of them.
 //
-// Sets, codes and colours are numbers, so that any can be handed in; the tests say which are in range. specs/Cells says
-// what each function gives, specs/Within what is in range; proofs/ holds their laws.
+// Sets, codes and colours are numbers, so that any can be handed in; the tests say which are in range. specs/Characters
+// says what each function gives, specs/Within what is in range; proofs/ holds their laws.
 ghost use mathlib.Core.Path.{_≡_};
 ghost use Rattle.cells.specs.Characters.{blankOf, cleared};
 ghost use Rattle.cells.specs.Within.{goodCharacter, goodCell, allGood};

@@ -50,7 +50,8 @@ right-on {p} h =
 
 pub up-on : {p : Place} → On p → On (upOf p)
 up-on {p} h =
-    chosen On (ltb 0 (p .row)) (λ e. record { row = above-low (p .row) (h .row); low = h .low; high = h .high }) (λ e. h)
+    chosen On (ltb 0 (p .row))
+    (λ e. record { row = above-low (p .row) (h .row); low = h .low; high = h .high }) (λ e. h)
 
 pub down-on : {p : Place} → On p → On (downOf p)
 down-on {p} h = record { row = below-low (p .row); low = h .low; high = h .high }

@@ -66,7 +66,8 @@ module _ (p : Pen) (g : ℕ) (e : p .attributes .waiting ≡ Ground g) where
 
   -- ---- the other orders
 
-  pair-fate : (c : ℕ) → grounds (paired (p .attributes) c) ≡ outcome p g (cond (namesGround c) (replaced (c % 16)) waits)
+  pair-fate : (c : ℕ)
+      → grounds (paired (p .attributes) c) ≡ outcome p g (cond (namesGround c) (replaced (c % 16)) waits)
   pair-fate c =
       chosen (λ (f : Fate). grounds (paired (p .attributes) c) ≡ outcome p g f) (namesGround c)
       (λ t. pair-ground (p .attributes) c t) (λ t. pair-others (p .attributes) c t ∙ same)
@@ -78,7 +79,9 @@ module _ (p : Pen) (g : ℕ) (e : p .attributes .waiting ≡ Ground g) where
   go-fate false x = same
 
   down-fate : (t : Bool)
-      → grounds (cond t (withAttributes (withPlace p (p .kept .place)) (p .kept .attributes)) (withPlace p (downOf (p .place))) .attributes)
+      → grounds
+      (cond t (withAttributes (withPlace p (p .kept .place)) (p .kept .attributes)) (withPlace p (downOf (p .place)))
+      .attributes)
       ≡ outcome p g (cond t broughtBack waits)
   down-fate true = refl
   down-fate false = same

@@ -37,7 +37,8 @@ again-kept p Never n = refl
 again-kept p (Character s d) n = times-kept p s d n
 
 down-kept : (p : Pen) (t : Bool)
-    → cond t (withAttributes (withPlace p (p .kept .place)) (p .kept .attributes)) (withPlace p (downOf (p .place))) .kept
+    → cond t (withAttributes (withPlace p (p .kept .place)) (p .kept .attributes)) (withPlace p (downOf (p .place)))
+    .kept
     ≡ p .kept
 down-kept p true = refl
 down-kept p false = refl

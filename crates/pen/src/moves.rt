@@ -50,13 +50,10 @@ impl Pen {
     }
 
     // To a place, with start attributes.
-    fn start_at(mut self, place: Place) -> Pen
+    fn start_at(self, place: Place) -> Pen
         ensures { λ r. ⌜ r ≡ startAt self place ⌝ }
     {
-        let start = attributes::start();
-        self.place = place;
-        self.attributes = start;
-        self
+        self.with_place(place).with_attributes(attributes::start())
     }
 
     // FF and RS.

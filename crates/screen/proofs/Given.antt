@@ -46,7 +46,8 @@ pub run-told : (s : Screen) (vs : List ℕ) → told (ran s vs .answer) ≡ runT
 unfolding ran
 run-told s vs = told-by (broken s) (ltb (firstLarge vs) (length vs)) s (advancedBy s vs) (firstLarge vs)
 
-large-told : (t : Bool) (s : Screen) → told (cond t (stepsTo s Broken) (stepsTo s (TooLarge 0)) .answer) ≡ tells t true 0
+large-told : (t : Bool) (s : Screen)
+    → told (cond t (stepsTo s Broken) (stepsTo s (TooLarge 0)) .answer) ≡ tells t true 0
 large-told true s = refl
 large-told false s = refl
 

@@ -81,7 +81,8 @@ unfolding writtenTimes written
 times-cell s a d zero x h k f = refl
 times-cell s a d (suc n) x h k f =
     getD-set-other (writtenTimes s a d n .cells) _ (indexOf x) _ blankOf
-    (λ e. f (subst (λ (y : Place). Among y (onwards (suc n) (s .pen .place))) (sym (same e)) (last-among n (s .pen .place))))
+    (λ e. f
+    (subst (λ (y : Place). Among y (onwards (suc n) (s .pen .place))) (sym (same e)) (last-among n (s .pen .place))))
     ∙ times-cell s a d n x h k (λ i. f (among-more n (suc n) (s .pen .place) (omega arith) i))
   where
     same : indexOf x ≡ indexOf (writtenTimes s a d n .pen .place) → x ≡ moved n (s .pen .place)
@@ -116,8 +117,9 @@ pub others-stay : (s : Screen) (b : ℕ) (x : Place) → On (s .pen .place) → 
 unfolding advanced
 others-stay s b x h k e f =
     let q = s .pen .sequence in
-    untouched s (planned (s .pen) b .pen) (planned (s .pen) b .asked) (writes q b) x h k
-    (subst (λ (t : Bool). Asks t (writes q b) (s .pen .place) (planned (s .pen) b .pen .place) (planned (s .pen) b .asked))
+    let a = planned (s .pen) b in
+    untouched s (a .pen) (a .asked) (writes q b) x h k
+    (subst (λ (t : Bool). Asks t (writes q b) (s .pen .place) (a .pen .place) (a .asked))
     e (plan-asks (s .pen) b))
     f
 
@@ -149,5 +151,6 @@ pub ff-cell : (s : Screen) (b : ℕ) (x : Place) → InScreen s → On x → cle
 ff-cell s b x h k e =
     let t = each (eqb b 12 ∷ not (isSeparator (s .pen .sequence)) ∷ []) e in
     ap (λ (c : ℕ). cellAt (advanced s c) x) (eqb-true b 12 (t .0))
-    ∙ ap (λ (cs : List Cell). getD cs (indexOf x) blankOf) (ff-cells s (λ q. fails (ap (λ (u : Sequence). not (isSeparator u)) q) (holds (t .1))))
+    ∙ ap (λ (cs : List Cell). getD cs (indexOf x) blankOf)
+    (ff-cells s (λ q. fails (ap (λ (u : Sequence). not (isSeparator u)) q) (holds (t .1))))
     ∙ by-row s x (eqb (x .row) 0) h k refl

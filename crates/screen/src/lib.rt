@@ -71,7 +71,8 @@ impl Screen {
     pub fn step(self, value: u8) -> Stepped
         ensures { λ r. ⌜ r ≡ stepped self value ⌝ }
     {
-        if self.is_broken() {
+        let broken = self.is_broken();
+        if broken {
             return Stepped {
                 screen: self,
                 answer: Answer::Broken,

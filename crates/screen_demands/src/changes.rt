@@ -38,9 +38,9 @@ pub fn only_characters_and_ff_change_a_cell()
         → cellAt (advanced s b) x ≡ cond (eqb (x .row) 0) (cellAt s x) blankOf) ⌝ }
 {}
 
-// With nothing unfinished, a code from 2/0 is one character of the current set, at the cursor's place. REP n, n from 4/0, is n minus 64 such
-// characters, one after the other: the last one written, its own set and code, with the attributes of the moment. With
-// no last character, or n from 2/0 to 3/F, nothing but the sequence ends.
+// With nothing unfinished, a code from 2/0 is one character of the current set, at the cursor's place. REP n, n from
+// 4/0, is n minus 64 such characters, one after the other: the last one written, its own set and code, with the
+// attributes of the moment. With no last character, or n from 2/0 to 3/F, the sequence ends and nothing else happens.
 pub fn rep_is_single_characters()
     ensures one { λ _. ⌜ ((s : Screen) (b : ℕ) → s .pen .sequence ≡ Free → 32 ≤ b
         → advanced s b ≡ written s (s .pen .attributes .set) b) ⌝ }
@@ -54,13 +54,14 @@ pub fn rep_is_single_characters()
         → advanced s n ≡ ended s) ⌝ }
 {}
 
-// NUL changes nothing in any state. Any other C0 code inside a sequence acts as it would with nothing unfinished, except
-// after SEP, which drops one code, whatever it is.
+// NUL changes nothing in any state. Any other C0 code inside a sequence acts as it would with nothing unfinished,
+// except after SEP, which drops one code, whatever it is.
 pub fn a_c0_code_ends_a_sequence()
     ensures nul { λ _. ⌜ ((s : Screen) → advanced s 0 ≡ s) ⌝ }
     ensures { λ _. ⌜ ((s : Screen) (b : ℕ) → (s .pen .sequence ≡ Separator → ⊥) → 1 ≤ b → b ≤ 31
         → advanced s b ≡ advanced (ended s) b) ⌝ }
-    ensures separated { λ _. ⌜ ((s : Screen) (b : ℕ) → s .pen .sequence ≡ Separator → 1 ≤ b → advanced s b ≡ ended s) ⌝ }
+    ensures separated { λ _. ⌜ ((s : Screen) (b : ℕ) → s .pen .sequence ≡ Separator → 1 ≤ b
+        → advanced s b ≡ ended s) ⌝ }
 {}
 
 // What becomes of a ground g that waits, by what the value orders: a character that takes it puts it in force, and none

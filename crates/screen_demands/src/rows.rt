@@ -19,8 +19,8 @@ pub fn no_move_crosses_into_row_0()
 
 // From a state below row 0 with no SEP open: US and a good pair for row 0, NULs between them or not, then any values
 // after each of which the cursor is in row 0 and the last of which leaves no SEP open, then LF. The place and all the
-// attributes, with what waits, are those just before the US, and no cell changes at the LF. Values that meet this exist:
-// a letter and CR on a fresh screen.
+// attributes, with what waits, are those just before the US, and no cell changes at the LF. Values that meet this
+// exist: a letter and CR on a fresh screen.
 pub fn lf_returns_from_row_0()
     ensures { λ _. ⌜ ((s : Screen) (i j c : ℕ) (bs : List ℕ) → (s .pen .sequence ≡ Separator → ⊥)
         → 1 ≤ s .pen .place .row → 65 ≤ c → c ≤ 104

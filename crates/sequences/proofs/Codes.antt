@@ -51,7 +51,8 @@ heard-control q b f l h = simp (ne-eqb b 0 (λ e. omega (arith, l, e)), le-ltb 3
 -- after SEP one code is dropped, whatever it is
 pub heard-dropped : (b : ℕ) → 1 ≤ b → heard Separator b ≡ does Skip
 heard-dropped b l =
-    simp (ne-eqb b 0 (λ f. omega (arith, l, f))) (chosen (λ (h : Heard). h ≡ does Skip) (ltb 31 b) (λ e. refl) (λ e. refl))
+    simp (ne-eqb b 0 (λ f. omega (arith, l, f)))
+    (chosen (λ (h : Heard). h ≡ does Skip) (ltb 31 b) (λ e. refl) (λ e. refl))
 
 -- REP n from 4/0 orders the last character n minus 64 times more
 pub heard-repeat : (n : ℕ) → 64 ≤ n → heard Repeat n ≡ does (Again (n - 64))

@@ -43,7 +43,8 @@ element-copy-out-cell c = rw (c .index .ensures) (index-low (on (c .before)))
 there : (c : tie.After-index)
     → getD (c .before .before .before .before .before .args .t1 .cells) (c .index .result) noCell
     ≡ cellAt (c .before .before .before .before .before .args .t1)
-    (at (c .before .before .before .before .before .args .row) (c .before .before .before .before .before .args .column))
+    (at (c .before .before .before .before .before .args .row)
+    (c .before .before .before .before .before .args .column))
 there c =
     let a = c .before .before .before .before .before in
     let n : length (a .args .t1 .cells) ≡ 1000 = search (length-mapped, a .good .0) in
@@ -54,7 +55,13 @@ returns-2 : tie.Need-returns-2
 unfolding read
 returns-2 c =
     let t = c .before .before in
-    simp (there (c .before), t .if2 .taken, ← t .before .on-screen .ensures, t .before .before .if1 .left, ← t .before .before .before .is-broken .ensures)
+    simp (
+      there (c .before),
+      t .if2 .taken,
+      ← t .before .on-screen .ensures,
+      t .before .before .if1 .left,
+      ← t .before .before .before .is-broken .ensures,
+    )
 
 returns-3 : tie.Need-returns-3
 unfolding read

@@ -39,7 +39,8 @@ write-requires c κs = search needs
 -- the cell stored is one of the thousand
 low : (c : tie.After-pen Inv-loop μ-loop) → c .before .before .before .before .index .result < 1000
 low c =
-    let i = c .before .before .before .before in rw (i .index .ensures) (index-low (i .before .before .before .loop .inv .1))
+    let i = c .before .before .before .before in
+    rw (i .index .ensures) (index-low (i .before .before .before .loop .inv .1))
 
 mul-cell : tie.Need-mul-cell Inv-loop μ-loop
 mul-cell c = omega (arith, low c)

@@ -11,7 +11,8 @@ is-free-requires c κs = search needs
 returns : tie.Need-returns
 returns c =
     let a = c .before .before .before .args in
-    sym (plan-text (a .pen) (a .value) (sym (c .before .before .is-free .ensures) ∙ c .before .if1 .taken) (c .if2 .taken))
+    let e = sym (c .before .before .is-free .ensures) ∙ c .before .if1 .taken in
+    sym (plan-text (a .pen) (a .value) e (c .if2 .taken))
 
 plan-requires : tie.Need-plan-requires
 plan-requires c κs = search needs
