@@ -17,11 +17,10 @@ use Rattle.screen.specs.declared.Screen.{Screen}
 use Rattle.screen.specs.declared.Answer.the-variants.{Taken, TooLarge, Broken}
 use Rattle.screen.specs.declared.Stepped.{Stepped}
 use Rattle.screen.specs.declared.Ran.{Ran}
-use Rattle.screen.specs.declared.Read.the-variants.{Broken as Unread}
-use Rattle.screen.specs.declared.Cursor.the-variants.{Broken as Lost}
 use Rattle.screen.specs.Screens.{advanced, advancedBy}
 use Rattle.screen.specs.Ranges.{broken, InScreen}
 use Rattle.screen.specs.Calls.{told, stepsTo, stepped, runsTo, ran, runTold, read, pointed}
+use Rattle.screen.specs.Calls.{readNumber, cursorNumber}
 use Rattle.screen.specs.Claims.{singly}
 use Rattle.screen.proofs.Stays.{unbroken, advanced-in}
 use Rattle.screen.proofs.Steps.{by-append}
@@ -69,7 +68,8 @@ pub step-broken : (s : Screen) (b : ℕ) → broken s ≡ true → stepped s b �
 unfolding stepped
 step-broken s b e = simp e
 
-pub reads-broken : (s : Screen) → broken s ≡ true → ((r c : ℕ) → read s r c ≡ Unread) × (pointed s ≡ Lost)
+pub reads-broken : (s : Screen) → broken s ≡ true
+    → ((r c : ℕ) → readNumber (read s r c) ≡ 5 ∷ []) × (cursorNumber (pointed s) ≡ 5 ∷ [])
 unfolding read pointed
 reads-broken s e = (λ r c. simp e, simp e)
 

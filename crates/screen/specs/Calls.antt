@@ -72,3 +72,14 @@ read s r c = cond (broken s) Unread (cond (onScreen (at r c)) (There (cellAt s (
 
 unfoldable pub pointed : Screen → Cursor
 pointed s = cond (broken s) Lost (cond (s .pen .shown) (Shown (s .pen .place)) (Hidden (s .pen .place)))
+
+-- the paper's number of what is read; a place off the screen has none
+abbrev pub readNumber : Read → List ℕ
+readNumber Unread = 5 ∷ []
+readNumber Off = []
+readNumber (There c) = 0 ∷ []
+
+abbrev pub cursorNumber : Cursor → List ℕ
+cursorNumber Lost = 5 ∷ []
+cursorNumber (Hidden x) = 0 ∷ []
+cursorNumber (Shown x) = 0 ∷ []

@@ -8,21 +8,20 @@ ghost use lib.ListN.{length};
 ghost use Rattle.values.specs.Large.{firstLarge};
 ghost use Rattle.screen.specs.declared.Screen.{Screen};
 ghost use Rattle.screen.specs.declared.Answer.the-variants.{TooLarge, Broken};
-ghost use Rattle.screen.specs.declared.Read.the-variants.{Broken as Unread};
-ghost use Rattle.screen.specs.declared.Cursor.the-variants.{Broken as Lost};
 ghost use Rattle.screen.specs.Screens.{freshScreen};
 ghost use Rattle.screen.specs.Ranges.{broken, InScreen};
-ghost use Rattle.screen.specs.Calls.{told, stepsTo, stepped, runsTo, ran, runTold, read, pointed};
+ghost use Rattle.screen.specs.Calls.{told, stepsTo, stepped, runsTo, ran, runTold};
+ghost use Rattle.screen.specs.Calls.{read, pointed, readNumber, cursorNumber};
 
 // A call's number, and the place that it names, come of the paper's conditions in their order: 5 for a state outside
 // its ranges, then 2 for a value above 127, at its lowest place, and else 0. A step is refused as the run over its one
-// value is. After a refusal the state handed in comes back.
+// value is. After a refusal the state handed in comes back; a broken one is not read either.
 pub fn each_call_gives_its_number()
     ensures runs { λ _. ⌜ ((s : Screen) (vs : List ℕ) → told (ran s vs .answer) ≡ runTold s vs) ⌝ }
     ensures steps { λ _. ⌜ ((s : Screen) (b : ℕ) → told (stepped s b .answer) ≡ runTold s (b ∷ [])) ⌝ }
     ensures broken { λ _. ⌜ ((s : Screen) → broken s ≡ true → ((b : ℕ) → stepped s b ≡ stepsTo s Broken)
         × ((vs : List ℕ) → ran s vs ≡ runsTo s Broken)
-        × ((r c : ℕ) → read s r c ≡ Unread) × (pointed s ≡ Lost)) ⌝ }
+        × ((r c : ℕ) → readNumber (read s r c) ≡ 5 ∷ []) × (cursorNumber (pointed s) ≡ 5 ∷ [])) ⌝ }
     ensures large { λ _. ⌜ ((s : Screen) → broken s ≡ false
         → ((b : ℕ) → 127 < b → stepped s b ≡ stepsTo s (TooLarge 0))
         × ((vs : List ℕ) → firstLarge vs < length vs → ran s vs ≡ runsTo s (TooLarge (firstLarge vs)))) ⌝ }
