@@ -5,7 +5,6 @@
 // in range; proofs/Stays shows that attributes in range stay so.
 ghost use mathlib.Core.Path.{_≡_};
 ghost use Rattle.attributes.specs.Attributing.{startOf, shiftedOut, shiftedIn};
-ghost use Rattle.attributes.specs.Within.{goodWaiting, good};
 
 mod pairs;
 mod writing;
@@ -48,34 +47,7 @@ pub fn start() -> Attributes
     }
 }
 
-impl Waiting {
-    fn in_range(self) -> bool
-        ensures { λ r. ⌜ r ≡ goodWaiting self ⌝ }
-    {
-        match self {
-            Waiting::Nothing => true,
-            Waiting::Ground(colour) => colour <= 7,
-        }
-    }
-}
-
 impl Attributes {
-    pub fn in_range(self) -> bool
-        ensures { λ r. ⌜ r ≡ good self ⌝ }
-    {
-        if 1 < self.set {
-            return false;
-        }
-        if 7 < self.ink {
-            return false;
-        }
-        if 7 < self.ground {
-            return false;
-        }
-        let waiting = self.waiting;
-        waiting.in_range()
-    }
-
     // SO.
     pub fn shift_out(mut self) -> Attributes
         ensures { λ r. ⌜ r ≡ shiftedOut self ⌝ }

@@ -11,7 +11,7 @@ use Rattle.reader.specs.Judging.{tryFrom, verdict, left}
 use Rattle.cells.specs.Characters.{cleared}
 use Rattle.cells.specs.Within.{goodCharacter, allGood}
 use Rattle.pen.specs.Pens.{goodSpot, inRange as penInRange}
-use Rattle.pen.specs.Obeying.{gone, obeyed}
+use Rattle.planning.specs.Obeying.{gone, obeyed}
 use Rattle.screen.specs.Screens.{freshScreen, written, writtenTimes, applied, advanced, advancedBy}
 use Rattle.screen.specs.Ranges.{inRange, broken}
 use Rattle.screen.specs.Calls.{ran}

@@ -1,10 +1,10 @@
 -- What the maker tells and leaves, for any values and any output (01, "The block", "Numbers given"). Assumes
 -- nothing.
-use Prim.Native.Nat.{ℕ, suc, _-_, _%_, _<_}
 use mathlib.Core.Bool.{false, cond, _||_}
 use mathlib.Core.List.{List, [], _∷_, _++_, map}
+use Prim.Native.Nat.{ℕ, _-_, _%_}
 use lib.Dec.{eqb, ltb}
-use lib.ListN.{length, getD, take, drop, replicate}
+use lib.ListN.{length, take, drop, replicate}
 use Rattle.numbers.specs.Numbers.{Conditions, numberOf, Told}
 use Rattle.division.specs.Division.{checkBits}
 use Rattle.parity.specs.Parity.{withParity}

@@ -1,5 +1,2 @@
 pub mod Pens
-pub mod Obeying
-pub mod Planning
-pub mod Grounds
-pub mod Reach
+pub mod Strokes

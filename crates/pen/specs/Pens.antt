@@ -3,7 +3,6 @@ use mathlib.Core.Path.{_≡_}
 use mathlib.Core.Bool.{Bool, true, false, _&&_}
 use Rattle.cursor.specs.declared.Place.{Place}
 use Rattle.cursor.specs.Moves.{home, onScreen, On}
-use Rattle.sequences.specs.declared.Sequence.{Sequence}
 use Rattle.sequences.specs.declared.Sequence.the-variants.{Free}
 use Rattle.sequences.specs.Hearing.{inRange as goodSequence}
 use Rattle.cells.specs.Within.{goodCharacter, Character}
@@ -25,52 +24,6 @@ freshPen =
       last = Never;
       sequence = Free;
       shown = false;
-    }
-
--- ---- a pen with one part changed
-
-abbrev pub withPlace : Pen → Place → Pen
-withPlace p x =
-    record {
-      place = x;
-      attributes = p .attributes;
-      kept = p .kept;
-      last = p .last;
-      sequence = p .sequence;
-      shown = p .shown;
-    }
-
-abbrev pub withAttributes : Pen → Attributes → Pen
-withAttributes p x =
-    record {
-      place = p .place;
-      attributes = x;
-      kept = p .kept;
-      last = p .last;
-      sequence = p .sequence;
-      shown = p .shown;
-    }
-
-abbrev pub withSequence : Pen → Sequence → Pen
-withSequence p x =
-    record {
-      place = p .place;
-      attributes = p .attributes;
-      kept = p .kept;
-      last = p .last;
-      sequence = x;
-      shown = p .shown;
-    }
-
-abbrev pub withShown : Pen → Bool → Pen
-withShown p x =
-    record {
-      place = p .place;
-      attributes = p .attributes;
-      kept = p .kept;
-      last = p .last;
-      sequence = p .sequence;
-      shown = x;
     }
 
 -- ---- ranges

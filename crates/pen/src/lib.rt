@@ -1,15 +1,12 @@
 // The pen: all of the screen but its cells (01, "Screen cells"). Where the cursor is, the attributes in force, what is
 // kept for the return from row 0, the last character, the unfinished sequence, and whether the cursor is shown.
 //
-// `plan` takes one value: it says the next pen, and what is asked of the cells. `write` is one character written: its
-// cell, and the pen after it. Neither sees the thousand cells. specs/Pens says what a pen is, specs/Obeying what each
-// order does to it, specs/Planning what a value does.
+// `write` is one character written: its cell, and the pen after it. specs/Pens says what a pen is and which are in
+// range, specs/Strokes what a character does. What a value does to a pen is in the crate `planning`.
 ghost use mathlib.Core.Path.{_≡_};
-ghost use Rattle.pen.specs.Pens.{freshPen, inRange};
-ghost use Rattle.pen.specs.Planning.{plan as planFor, stroke as strokeOf};
+ghost use Rattle.pen.specs.Pens.{freshPen};
+ghost use Rattle.pen.specs.Strokes.{stroke as strokeOf};
 
-mod moves;
-mod orders;
 mod ranges;
 
 use attributes::Attributes;
@@ -38,20 +35,6 @@ pub struct Pen {
     pub shown: bool,
 }
 
-// What is asked of the cells.
-pub enum Asked {
-    Nothing,
-    // Rows 1 to 24 blank.
-    Blank,
-    // A character, so many times.
-    Put { set: u8, code: u8, times: u8 },
-}
-
-pub struct Plan {
-    pub pen: Pen,
-    pub asked: Asked,
-}
-
 // One character written: its cell, and the pen after it.
 pub struct Stroke {
     pub cell: Cell,
@@ -76,24 +59,6 @@ impl Pen {
             last: Last::Never,
             sequence: Sequence::Free,
             shown: false,
-        }
-    }
-
-    // One value. A pen out of range, or a value above 127: the pen comes back, and nothing is asked.
-    pub fn plan(self, value: u8) -> Plan
-        ensures { λ r. ⌜ r ≡ planFor self value ⌝ }
-    {
-        if 127 < value {
-            return self.keep_cells();
-        }
-        if self.in_range() {
-            let sequence = self.sequence;
-            let heard = sequences::hear(sequence, value);
-            let open = heard.sequence;
-            let order = heard.order;
-            self.with_sequence(open).obey(order)
-        } else {
-            self.keep_cells()
         }
     }
 

@@ -2,10 +2,10 @@
 use mathlib.Core.Path.{_≡_, refl, sym, ap, _∙_}
 use Prim.Native.Nat.{ℕ}
 use Rattle.pen.specs.declared.Pen.{Pen}
-use Rattle.pen.specs.declared.Asked.{Asked}
-use Rattle.pen.specs.declared.Asked.the-variants.{Nothing, Blank, Put}
-use Rattle.pen.specs.declared.Plan.{Plan}
-use Rattle.pen.specs.Planning.{planned}
+use Rattle.planning.specs.declared.Asked.{Asked}
+use Rattle.planning.specs.declared.Asked.the-variants.{Nothing, Blank, Put}
+use Rattle.planning.specs.declared.Planned.{Planned}
+use Rattle.planning.specs.Planning.{planned}
 use Rattle.screen.specs.declared.Screen.{Screen}
 use Rattle.screen.specs.Screens.{withPen, written, writtenTimes, applied, advanced}
 
@@ -17,11 +17,11 @@ applied-any s p q Blank = refl
 applied-any s p q (Put a d n) = refl
 
 -- a plan that is the one for the value
-pub planned-step : (s : Screen) (p : Pen) (b : ℕ) (a : Plan) → a ≡ planned p b
+pub planned-step : (s : Screen) (p : Pen) (b : ℕ) (a : Planned) → a ≡ planned p b
     → applied s (a .pen) (a .asked) ≡ advanced (withPen s p) b
 unfolding advanced
 planned-step s p b a e =
-    ap (λ (x : Plan). applied s (x .pen) (x .asked)) e ∙ sym (applied-any s p (planned p b .pen) (planned p b .asked))
+    ap (λ (x : Planned). applied s (x .pen) (x .asked)) e ∙ sym (applied-any s p (planned p b .pen) (planned p b .asked))
 
 pub nothing-asked : (s : Screen) (p : Pen) (o : Asked) → o ≡ Nothing → withPen s p ≡ applied s p o
 unfolding applied

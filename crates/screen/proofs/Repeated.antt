@@ -9,22 +9,22 @@ use Rattle.sequences.specs.Hearing.{isFree, isSeparator, does, control, heard}
 use Rattle.sequences.proofs.Codes.{heard-control, heard-dropped, heard-repeat, heard-low}
 use Rattle.pen.specs.declared.Last.{Last}
 use Rattle.pen.specs.declared.Last.the-variants.{Never, Character}
-use Rattle.pen.specs.declared.Plan.{Plan}
-use Rattle.pen.specs.Pens.{withSequence}
-use Rattle.pen.specs.Obeying.{again, obeyed}
-use Rattle.pen.specs.Planning.{planned}
-use Rattle.pen.proofs.Plans.{plannedBy, plan-heard, plan-text}
+use Rattle.planning.specs.declared.Planned.{Planned}
+use Rattle.planning.specs.Changing.{withSequence}
+use Rattle.planning.specs.Obeying.{again, obeyed}
+use Rattle.planning.specs.Planning.{planned}
+use Rattle.planning.proofs.Plans.{plannedBy, plan-heard, plan-text}
 use Rattle.screen.specs.declared.Screen.{Screen}
 use Rattle.screen.specs.Screens.{written, writtenTimes, applied, advanced}
 use Rattle.screen.specs.Claims.{ended}
 use Rattle.screen.proofs.Beside.{applied-any}
 
 -- what a plan does to the screen
-abbrev pub doneBy : Screen → Plan → Screen
+abbrev pub doneBy : Screen → Planned → Screen
 doneBy s a = applied s (a .pen) (a .asked)
 
 -- a step whose plan is known
-pub step-plan : (s : Screen) (b : ℕ) (a : Plan) → planned (s .pen) b ≡ a → advanced s b ≡ doneBy s a
+pub step-plan : (s : Screen) (b : ℕ) (a : Planned) → planned (s .pen) b ≡ a → advanced s b ≡ doneBy s a
 unfolding advanced
 step-plan s b a e = ap (doneBy s) e
 

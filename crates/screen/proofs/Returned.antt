@@ -12,15 +12,16 @@ use Rattle.attributes.specs.declared.Waiting.the-variants.{Ground}
 use Rattle.attributes.specs.Attributing.{grounds}
 use Rattle.pen.specs.declared.Pen.{Pen}
 use Rattle.pen.specs.declared.Kept.{Kept}
-use Rattle.pen.specs.declared.Asked.{Asked}
-use Rattle.pen.specs.declared.Asked.the-variants.{Nothing, Blank, Put}
-use Rattle.pen.specs.Pens.{withSequence}
-use Rattle.pen.specs.Obeying.{obeyed}
-use Rattle.pen.specs.Planning.{ordered, planned, afterTimes, finished, penAfter}
-use Rattle.pen.specs.Grounds.{fate, outcome}
-use Rattle.pen.proofs.Plans.{plan-heard}
-use Rattle.pen.proofs.Fates.{value-fate}
-use Rattle.pen.proofs.Row0.{kept-stays, entered, enters, lf-back}
+use Rattle.pen.specs.Strokes.{afterTimes}
+use Rattle.planning.specs.declared.Asked.{Asked}
+use Rattle.planning.specs.declared.Asked.the-variants.{Nothing, Blank, Put}
+use Rattle.planning.specs.Changing.{withSequence}
+use Rattle.planning.specs.Obeying.{obeyed}
+use Rattle.planning.specs.Planning.{ordered, planned, finished, penAfter}
+use Rattle.planning.specs.Grounds.{fate, outcome}
+use Rattle.planning.proofs.Plans.{plan-heard}
+use Rattle.planning.proofs.Fates.{value-fate}
+use Rattle.planning.proofs.Row0.{kept-stays, entered, enters, lf-back}
 use Rattle.screen.specs.declared.Screen.{Screen}
 use Rattle.screen.specs.Screens.{withPen, written, writtenTimes, applied, advanced, advancedBy}
 use Rattle.screen.specs.Claims.{enteringRow0, StaysInRow0, done, next}

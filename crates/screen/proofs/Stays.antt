@@ -12,11 +12,12 @@ use Rattle.cells.specs.Characters.{blankOf, cleared}
 use Rattle.cells.specs.Within.{allGood, Character}
 use Rattle.cells.proofs.Stays.{all-true, true-all, all-set, blanks-in, cleared-in}
 use Rattle.pen.specs.declared.Pen.{Pen}
-use Rattle.pen.specs.declared.Asked.{Asked}
-use Rattle.pen.specs.declared.Asked.the-variants.{Nothing, Blank, Put}
 use Rattle.pen.specs.Pens.{inRange as penInRange, InPen}
-use Rattle.pen.specs.Planning.{planned}
-use Rattle.pen.proofs.Stays.{pen-true, true-pen, fresh-in, InAsked, planned-in, after-in, stroke-cell}
+use Rattle.pen.proofs.Stays.{pen-true, true-pen, fresh-in, after-in, stroke-cell}
+use Rattle.planning.specs.declared.Asked.{Asked}
+use Rattle.planning.specs.declared.Asked.the-variants.{Nothing, Blank, Put}
+use Rattle.planning.specs.Planning.{planned}
+use Rattle.planning.proofs.Stays.{InAsked, planned-in}
 use Rattle.screen.specs.declared.Screen.{Screen}
 use Rattle.screen.specs.Screens.{freshScreen, indexOf, written, writtenTimes, applied, advanced}
 use Rattle.screen.specs.Ranges.{inRange, broken, InScreen}

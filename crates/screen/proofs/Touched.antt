@@ -21,13 +21,14 @@ use Rattle.cells.specs.declared.Cell.{Cell}
 use Rattle.cells.specs.Characters.{blankOf, cleared}
 use Rattle.cells.proofs.Blanked.{row-0-kept, others-blank}
 use Rattle.pen.specs.declared.Pen.{Pen}
-use Rattle.pen.specs.declared.Asked.{Asked}
-use Rattle.pen.specs.declared.Asked.the-variants.{Nothing, Blank, Put}
-use Rattle.pen.specs.Obeying.{obeyed}
-use Rattle.pen.specs.Planning.{planned, stroke}
-use Rattle.pen.specs.Reach.{writes, clears}
-use Rattle.pen.proofs.Plans.{plan-heard}
-use Rattle.pen.proofs.Reached.{Asks, plan-asks}
+use Rattle.pen.specs.Strokes.{stroke}
+use Rattle.planning.specs.declared.Asked.{Asked}
+use Rattle.planning.specs.declared.Asked.the-variants.{Nothing, Blank, Put}
+use Rattle.planning.specs.Obeying.{obeyed}
+use Rattle.planning.specs.Planning.{planned}
+use Rattle.planning.specs.Reach.{writes, clears}
+use Rattle.planning.proofs.Plans.{plan-heard}
+use Rattle.planning.proofs.Reached.{Asks, plan-asks}
 use Rattle.screen.specs.declared.Screen.{Screen}
 use Rattle.screen.specs.Screens.{indexOf, cellAt, withPen, written, writtenTimes, applied, advanced}
 use Rattle.screen.specs.Ranges.{InScreen}

@@ -6,7 +6,7 @@ use lib.ListN.{replicate}
 use Rattle.cursor.specs.declared.Place.{Place}
 use Rattle.cursor.specs.Moves.{rightOf}
 use Rattle.sequences.specs.declared.Sequence.the-variants.{Free}
-use Rattle.pen.specs.Pens.{withSequence}
+use Rattle.planning.specs.Changing.{withSequence}
 use Rattle.screen.specs.declared.Screen.{Screen}
 use Rattle.screen.specs.Screens.{withPen, advanced}
 use Rattle.screen.specs.Calls.{stepped}

@@ -6,10 +6,11 @@ use Rattle.cursor.specs.declared.Place.{Place}
 use Rattle.cells.specs.declared.Cell.{Cell}
 use Rattle.cells.specs.Characters.{blankOf, cleared}
 use Rattle.pen.specs.declared.Pen.{Pen}
-use Rattle.pen.specs.declared.Asked.{Asked}
-use Rattle.pen.specs.declared.Asked.the-variants.{Nothing, Blank, Put}
 use Rattle.pen.specs.Pens.{freshPen}
-use Rattle.pen.specs.Planning.{stroke, planned}
+use Rattle.pen.specs.Strokes.{stroke}
+use Rattle.planning.specs.declared.Asked.{Asked}
+use Rattle.planning.specs.declared.Asked.the-variants.{Nothing, Blank, Put}
+use Rattle.planning.specs.Planning.{planned}
 use Rattle.screen.specs.declared.Screen.{Screen}
 
 -- "a fresh screen is 1,000 equal cells"

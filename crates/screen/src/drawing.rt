@@ -4,8 +4,8 @@ ghost use Rattle.cursor.specs.Moves.{On};
 ghost use Rattle.screen.specs.Screens.{indexOf, withPen, blanked, writtenTimes, applied};
 use crate::Screen;
 use cursor::Place;
-use pen::Asked;
 use pen::Pen;
+use planning::Asked;
 
 // Where a place's cell lies among the thousand.
 pub(crate) fn index(place: Place) -> usize

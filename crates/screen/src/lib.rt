@@ -84,9 +84,9 @@ impl Screen {
                 answer: Answer::TooLarge(0),
             };
         }
-        let plan = self.pen.plan(value);
-        let pen = plan.pen;
-        let asked = plan.asked;
+        let planned = planning::plan(self.pen, value);
+        let pen = planned.pen;
+        let asked = planned.asked;
         let screen = self.apply(pen, asked);
         Stepped {
             screen,

@@ -4,8 +4,9 @@ ghost use mathlib.Core.Path.{_≡_};
 ghost use mathlib.Core.Bool.{true};
 ghost use Prim.Native.Nat.{_≤_};
 ghost use Rattle.values.specs.Large.{Values};
+ghost use Rattle.sequences.specs.Hearing.{isFree};
 ghost use Rattle.pen.specs.Pens.{inRange as penInRange};
-ghost use Rattle.pen.specs.Planning.{planned};
+ghost use Rattle.planning.specs.Planning.{planned};
 ghost use Rattle.screen.specs.Screens.{advancedBy};
 ghost use Rattle.screen.specs.Ranges.{inRange};
 ghost use Rattle.screen.specs.Calls.{ran};
@@ -13,21 +14,40 @@ use crate::Answer;
 use crate::Ran;
 use crate::Screen;
 use crate::drawing::index;
-use pen::Asked;
 use pen::Pen;
-use pen::Plan;
+use planning::Asked;
+use planning::Planned;
+use planning::plan;
+use sequences::Sequence;
+
+// Whether nothing is unfinished.
+fn is_free(sequence: Sequence) -> bool
+    ensures { λ r. ⌜ r ≡ isFree sequence ⌝ }
+{
+    match sequence {
+        Sequence::Free => true,
+        Sequence::Escape => false,
+        Sequence::Long => false,
+        Sequence::Control => false,
+        Sequence::Separator => false,
+        Sequence::Repeat => false,
+        Sequence::Single => false,
+        Sequence::Address => false,
+        Sequence::Row(_) => false,
+    }
+}
 
 // What a value does; where it is a character with nothing unfinished, without testing the pen once more.
-fn plan_quickly(pen: Pen, value: u8) -> Plan
+fn plan_quickly(pen: Pen, value: u8) -> Planned
     requires { ⌜ penInRange pen ≡ true ⌝ }
     requires { ⌜ value ≤ 127 ⌝ }
     ensures { λ r. ⌜ r ≡ planned pen value ⌝ }
 {
     let sequence = pen.sequence;
-    if sequence.is_free() {
+    if is_free(sequence) {
         if 31 < value {
             let set = pen.attributes.set;
-            return Plan {
+            return Planned {
                 pen,
                 asked: Asked::Put {
                     set,
@@ -37,7 +57,7 @@ fn plan_quickly(pen: Pen, value: u8) -> Plan
             };
         }
     }
-    pen.plan(value)
+    plan(pen, value)
 }
 
 impl Screen {
@@ -50,9 +70,9 @@ impl Screen {
         let mut pen = self.pen;
         let mut i: usize = 0;
         while i < values.len() {
-            let plan = plan_quickly(pen, values[i]);
-            let next = plan.pen;
-            let asked = plan.asked;
+            let planned = plan_quickly(pen, values[i]);
+            let next = planned.pen;
+            let asked = planned.asked;
             match asked {
                 Asked::Nothing => {
                     pen = next;

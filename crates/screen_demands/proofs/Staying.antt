@@ -1,7 +1,7 @@
 -- Values that stay in row 0: a letter and CR on a fresh screen. Assumes nothing.
 use mathlib.Core.Path.{refl}
 use mathlib.Core.List.{[], _∷_}
-use Rattle.pen.specs.Obeying.{gone, obeyed}
+use Rattle.planning.specs.Obeying.{gone, obeyed}
 use Rattle.screen.specs.Screens.{freshScreen, written, writtenTimes, applied, advanced, advancedBy}
 use Rattle.screen.specs.Claims.{enteringRow0, StaysInRow0, done, next}
 

@@ -4,7 +4,7 @@
 // `hear` takes an unfinished sequence and one value, and says what is unfinished then and what is ordered. It knows no
 // cursor, no attribute and no cell. specs/Hearing says the same, rule by rule.
 ghost use mathlib.Core.Path.{_≡_};
-ghost use Rattle.sequences.specs.Hearing.{isFree, order, begins, escaped};
+ghost use Rattle.sequences.specs.Hearing.{order, begins, escaped};
 ghost use Rattle.sequences.specs.Hearing.{dropped, again, single, followed, heard};
 
 mod states;
@@ -63,25 +63,6 @@ pub enum Order {
 pub struct Heard {
     pub sequence: Sequence,
     pub order: Order,
-}
-
-impl Sequence {
-    // Whether nothing is unfinished.
-    pub fn is_free(self) -> bool
-        ensures { λ r. ⌜ r ≡ isFree self ⌝ }
-    {
-        match self {
-            Sequence::Free => true,
-            Sequence::Escape => false,
-            Sequence::Long => false,
-            Sequence::Control => false,
-            Sequence::Separator => false,
-            Sequence::Repeat => false,
-            Sequence::Single => false,
-            Sequence::Address => false,
-            Sequence::Row(_) => false,
-        }
-    }
 }
 
 // What a C0 code orders.

@@ -11,7 +11,8 @@ use borrow.Author.Needs.{needs}
 use Rattle.laws.proofs.Lists.{length-mapped}
 use Rattle.pen.specs.declared.Stroke.{Stroke}
 use Rattle.pen.specs.Pens.{InPen}
-use Rattle.pen.proofs.Stays.{pen-true, planned-in}
+use Rattle.pen.proofs.Stays.{pen-true}
+use Rattle.planning.proofs.Stays.{planned-in}
 use Rattle.screen.specs.declared.Screen.{Screen}
 use Rattle.screen.specs.Screens.{withPen, written, applied, advanced, advancedBy}
 use Rattle.screen.specs.Ranges.{InScreen}

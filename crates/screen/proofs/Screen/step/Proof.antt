@@ -4,9 +4,10 @@ use mathlib.Core.Path.{_≡_, sym, _∙_}
 use borrow.Author.Tests.{le-ltb, lt-ltb}
 use borrow.Author.Needs.{needs}
 use Rattle.pen.specs.Pens.{InPen}
-use Rattle.pen.specs.Planning.{planned}
-use Rattle.pen.proofs.Stays.{pen-true, planned-in}
-use Rattle.pen.proofs.Plans.{plan-tested}
+use Rattle.pen.proofs.Stays.{pen-true}
+use Rattle.planning.specs.Planning.{planned}
+use Rattle.planning.proofs.Stays.{planned-in}
+use Rattle.planning.proofs.Plans.{plan-tested}
 use Rattle.screen.specs.Screens.{advanced}
 use Rattle.screen.specs.Calls.{stepped}
 use Rattle.screen.proofs.Stays.{whole, true-pen-in}

@@ -8,7 +8,7 @@ use borrow.Author.Needs.{needs}
 use Rattle.cursor.specs.Moves.{On}
 use Rattle.cursor.proofs.Stays.{right-on}
 use Rattle.pen.specs.declared.Stroke.{Stroke}
-use Rattle.pen.specs.Planning.{stroke}
+use Rattle.pen.specs.Strokes.{stroke}
 use Rattle.screen.specs.declared.Screen.{Screen}
 use Rattle.screen.specs.Screens.{indexOf, written, writtenTimes}
 use Rattle.screen.proofs.Stays.{index-low}

@@ -1,7 +1,7 @@
 -- `screen::pieces::plan_quickly` meets its contract. Assumes nothing.
 use mathlib.Core.Path.{sym, _∙_}
 use borrow.Author.Needs.{needs}
-use Rattle.pen.proofs.Plans.{plan-tested, plan-text}
+use Rattle.planning.proofs.Plans.{plan-tested, plan-text}
 use Rattle.screen.proofs.pieces.plan_quickly.Statement.{statement}
 use Rattle.screen.proofs.pieces.plan_quickly.Tie as tie
 

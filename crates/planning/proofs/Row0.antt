@@ -1,0 +1,114 @@
+-- Row 0: what is kept when US enters it stays kept while the cursor is there, and LF brings it back. Assumes nothing.
+use mathlib.Core.Path.{_≡_, refl, ap, _∙_}
+use mathlib.Core.Bool.{Bool, true, false, cond}
+use Prim.Native.Nat.{ℕ, zero, suc, _-_, _≤_}
+use native.Mathlib.Omega.{arith}
+use lib.Dec.{eqb, lit≤}
+use borrow.Author.Tests.{eq-eqb, ne-eqb, le-leb}
+use Rattle.cursor.specs.declared.Place.{Place}
+use Rattle.cursor.specs.declared.Address.{Address}
+use Rattle.cursor.specs.declared.Address.the-variants.{Nowhere, There}
+use Rattle.cursor.specs.Moves.{at, downOf, good, addressed}
+use Rattle.sequences.specs.declared.Sequence.{Sequence}
+use Rattle.sequences.specs.declared.Sequence.the-variants.{Free, Separator, Row}
+use Rattle.sequences.specs.declared.Order.{Order}
+use Rattle.sequences.specs.declared.Order.the-variants.{Skip, Left, Right, Up, Down, First, Clear, Home}
+use Rattle.sequences.specs.declared.Order.the-variants.{ShiftOut, ShiftIn, Show, Hide, Pair, Go, Write}
+use Rattle.sequences.specs.declared.Order.the-variants.{Second, Again}
+use Rattle.sequences.specs.Hearing.{does, control, heard}
+use Rattle.sequences.proofs.Codes.{heard-code, heard-control}
+use Rattle.pen.specs.declared.Last.{Last}
+use Rattle.pen.specs.declared.Last.the-variants.{Never, Character}
+use Rattle.pen.specs.declared.Pen.{Pen}
+use Rattle.pen.specs.Strokes.{afterTimes}
+use Rattle.planning.specs.Changing.{withPlace, withAttributes, withSequence}
+use Rattle.planning.specs.Obeying.{keeps, again, keeping, startAt, gone, obeyed}
+use Rattle.planning.specs.Planning.{unfinished, ordered, planned, finished, afterOrder, penAfter}
+use Rattle.planning.proofs.Plans.{plan-heard}
+
+-- ---- what is kept
+
+times-kept : (p : Pen) (s d n : ℕ) → afterTimes p s d n .kept ≡ p .kept
+unfolding afterTimes
+times-kept p s d zero = refl
+times-kept p s d (suc n) = times-kept p s d n
+
+again-kept : (p : Pen) (l : Last) (n : ℕ) → finished (again p l n .pen) (again p l n .asked) .kept ≡ p .kept
+again-kept p Never n = refl
+again-kept p (Character s d) n = times-kept p s d n
+
+down-kept : (p : Pen) (t : Bool)
+    → cond t (withAttributes (withPlace p (p .kept .place)) (p .kept .attributes)) (withPlace p (downOf (p .place)))
+    .kept
+    ≡ p .kept
+down-kept p true = refl
+down-kept p false = refl
+
+-- US leaves it alone where the cursor is in row 0 already
+go-kept : (p : Pen) (t u : Bool) (x : Place) → eqb (p .place .row) 0 ≡ true → eqb (x .row) 0 ≡ u
+    → gone p (cond t (There x) Nowhere) .kept ≡ p .kept
+unfolding gone
+go-kept p true true x e f = simp (e, f)
+go-kept p true false x e f = simp f
+go-kept p false u x e f = refl
+
+order-kept : (p : Pen) (o : Order) → p .place .row ≡ 0 → afterOrder p o .kept ≡ p .kept
+unfolding obeyed
+order-kept p Skip e = refl
+order-kept p Left e = refl
+order-kept p Right e = refl
+order-kept p Up e = refl
+order-kept p Down e = down-kept p (eqb (p .place .row) 0)
+order-kept p First e = refl
+order-kept p Clear e = refl
+order-kept p Home e = refl
+order-kept p ShiftOut e = refl
+order-kept p ShiftIn e = refl
+order-kept p Show e = refl
+order-kept p Hide e = refl
+order-kept p (Pair c) e = refl
+order-kept p (Go r c) e = go-kept p (good r c) _ (at (r - 64) (c - 64)) (eq-eqb _ _ e) refl
+order-kept p (Write c) e = times-kept p (p .attributes .set) c 1
+order-kept p (Second c) e = times-kept p 2 c 1
+order-kept p (Again n) e = again-kept p (p .last) n
+
+-- in row 0 no value changes what is kept
+pub kept-stays : (p : Pen) (b : ℕ) → p .place .row ≡ 0 → penAfter p b .kept ≡ p .kept
+kept-stays p b e = order-kept (unfinished p b) (ordered p b) e
+
+-- ---- US into row 0, and LF
+
+-- the pen that US leaves in row 0
+abbrev pub entered : Pen → ℕ → Pen
+entered p c = startAt (keeping (withSequence p Free)) (at 0 (c - 64))
+
+-- where US leads
+leads : (c : ℕ) → 65 ≤ c → c ≤ 104 → addressed 64 c ≡ There (at 0 (c - 64))
+leads c h k = simp (le-leb 65 c h, le-leb c 104 k)
+
+entering-row : (p : Pen) (x : Place) → x .row ≡ 0 → 1 ≤ p .place .row → gone p (There x) ≡ startAt (keeping p) x
+unfolding gone
+entering-row p x e r = simp (eq-eqb (x .row) 0 e, ne-eqb (p .place .row) 0 (λ f. omega (arith, r, f)))
+
+pub enters : (p : Pen) (c : ℕ) → p .sequence ≡ Row 64 → 1 ≤ p .place .row → 65 ≤ c → c ≤ 104
+    → planned p c ≡ keeps (entered p c)
+unfolding obeyed
+enters p c q r h k =
+    plan-heard p c (does (Go 64 c)) (ap (λ (x : Sequence). heard x c) q ∙ heard-code (Row 64) c (omega (arith, h)))
+    ∙ ap (λ (a : Address). keeps (gone (withSequence p Free) a)) (leads c h k)
+    ∙ ap keeps (entering-row (withSequence p Free) (at 0 (c - 64)) refl r)
+
+-- LF in row 0, not after SEP: no cell is asked for, and what was kept is back
+pub lf-back : (p : Pen) → (p .sequence ≡ Separator → ⊥) → p .place .row ≡ 0
+    → planned p 10
+    ≡ keeps (withAttributes (withPlace (withSequence p Free) (p .kept .place)) (p .kept .attributes))
+unfolding obeyed
+lf-back p s e =
+    plan-heard p 10 (control 10) (heard-control (p .sequence) 10 s (lit≤ tt) (lit≤ tt))
+    ∙ ap (λ (t : Bool). keeps (cond t back (withPlace q (downOf (p .place))))) (eq-eqb (p .place .row) 0 e)
+  where
+    q : Pen
+    q = withSequence p Free
+
+    back : Pen
+    back = withAttributes (withPlace q (p .kept .place)) (p .kept .attributes)

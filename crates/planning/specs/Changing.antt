@@ -1,0 +1,50 @@
+-- A pen with one part changed. Assumes nothing.
+use mathlib.Core.Bool.{Bool}
+use Rattle.cursor.specs.declared.Place.{Place}
+use Rattle.sequences.specs.declared.Sequence.{Sequence}
+use Rattle.attributes.specs.declared.Attributes.{Attributes}
+use Rattle.pen.specs.declared.Pen.{Pen}
+
+abbrev pub withPlace : Pen → Place → Pen
+withPlace p x =
+    record {
+      place = x;
+      attributes = p .attributes;
+      kept = p .kept;
+      last = p .last;
+      sequence = p .sequence;
+      shown = p .shown;
+    }
+
+abbrev pub withAttributes : Pen → Attributes → Pen
+withAttributes p x =
+    record {
+      place = p .place;
+      attributes = x;
+      kept = p .kept;
+      last = p .last;
+      sequence = p .sequence;
+      shown = p .shown;
+    }
+
+abbrev pub withSequence : Pen → Sequence → Pen
+withSequence p x =
+    record {
+      place = p .place;
+      attributes = p .attributes;
+      kept = p .kept;
+      last = p .last;
+      sequence = x;
+      shown = p .shown;
+    }
+
+abbrev pub withShown : Pen → Bool → Pen
+withShown p x =
+    record {
+      place = p .place;
+      attributes = p .attributes;
+      kept = p .kept;
+      last = p .last;
+      sequence = p .sequence;
+      shown = x;
+    }

@@ -1,0 +1,5 @@
+pub mod Changing
+pub mod Obeying
+pub mod Planning
+pub mod Grounds
+pub mod Reach

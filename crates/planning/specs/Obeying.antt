@@ -1,0 +1,94 @@
+-- What each order does to the pen, and what it asks of the cells (01, "Screen cells"). Assumes nothing.
+use mathlib.Core.Bool.{true, false, cond}
+use Prim.Native.Nat.{ℕ}
+use lib.Dec.{eqb}
+use Rattle.cursor.specs.declared.Place.{Place}
+use Rattle.cursor.specs.declared.Address.{Address}
+use Rattle.cursor.specs.declared.Address.the-variants.{Nowhere, There}
+use Rattle.cursor.specs.Moves.{home, leftOf, rightOf, upOf, downOf, firstOf, addressed}
+use Rattle.sequences.specs.declared.Order.{Order}
+use Rattle.sequences.specs.declared.Order.the-variants.{Skip, Left, Right, Up, Down, First, Clear, Home}
+use Rattle.sequences.specs.declared.Order.the-variants.{ShiftOut, ShiftIn, Show, Hide, Pair, Go, Write}
+use Rattle.sequences.specs.declared.Order.the-variants.{Second, Again}
+use Rattle.attributes.specs.Attributing.{startOf, shiftedOut, shiftedIn, paired}
+use Rattle.pen.specs.declared.Last.{Last}
+use Rattle.pen.specs.declared.Last.the-variants.{Never, Character}
+use Rattle.pen.specs.declared.Pen.{Pen}
+use Rattle.planning.specs.declared.Asked.{Asked}
+use Rattle.planning.specs.declared.Asked.the-variants.{Nothing, Blank, Put}
+use Rattle.planning.specs.declared.Planned.{Planned}
+use Rattle.planning.specs.Changing.{withPlace, withAttributes, withShown}
+
+-- ---- what is asked
+
+abbrev pub asks : Pen → Asked → Planned
+asks p o = record { pen = p; asked = o }
+
+abbrev pub keeps : Pen → Planned
+keeps p = asks p Nothing
+
+abbrev pub puts : Pen → ℕ → ℕ → ℕ → Planned
+puts p s d n = asks p (Put s d n)
+
+-- "the last character written, its set and code, is written n minus 64 times more"; "Only a fresh screen has no last
+-- character; then nothing happens"
+abbrev pub again : Pen → Last → ℕ → Planned
+again p Never n = keeps p
+again p (Character s d) n = puts p s d n
+
+-- ---- moves
+
+-- "cursor there, start attributes"
+abbrev pub startAt : Pen → Place → Pen
+startAt p x = withAttributes (withPlace p x) startOf
+
+-- LF; in row 0 it "returns to the place and attributes held before the last US that entered row 0 from another row"
+abbrev pub lowered : Pen → Pen
+lowered p =
+    cond (eqb (p .place .row) 0)
+    (withAttributes (withPlace p (p .kept .place)) (p .kept .attributes))
+    (withPlace p (downOf (p .place)))
+
+abbrev pub keeping : Pen → Pen
+keeping p =
+    record {
+      place = p .place;
+      attributes = p .attributes;
+      kept = record { place = p .place; attributes = p .attributes };
+      last = p .last;
+      sequence = p .sequence;
+      shown = p .shown;
+    }
+
+-- what is held is kept where US enters row 0 from another row
+abbrev pub entering : Pen → ℕ → Pen
+entering p r = cond (eqb r 0) (cond (eqb (p .place .row) 0) p (keeping p)) p
+
+-- US: "cursor there, start attributes; else all three dropped"
+unfoldable pub gone : Pen → Address → Pen
+gone p Nowhere = p
+gone p (There x) = startAt (entering p (x .row)) x
+
+-- ---- each order
+
+unfoldable pub obeyed : Pen → Order → Planned
+obeyed p Skip = keeps p
+obeyed p Left = keeps (withPlace p (leftOf (p .place)))
+obeyed p Right = keeps (withPlace p (rightOf (p .place)))
+obeyed p Up = keeps (withPlace p (upOf (p .place)))
+obeyed p Down = keeps (lowered p)
+obeyed p First = keeps (withPlace p (firstOf (p .place)))
+-- "FF: rows 1 to 24 blank, row 0 kept; cursor to row 1, column 1; start attributes. RS: the same without blanking"
+obeyed p Clear = asks (startAt p home) Blank
+obeyed p Home = keeps (startAt p home)
+obeyed p ShiftOut = keeps (withAttributes p (shiftedOut (p .attributes)))
+obeyed p ShiftIn = keeps (withAttributes p (shiftedIn (p .attributes)))
+-- "CON (1/1) and COFF (1/4) show and hide the cursor"
+obeyed p Show = keeps (withShown p true)
+obeyed p Hide = keeps (withShown p false)
+obeyed p (Pair c) = keeps (withAttributes p (paired (p .attributes) c))
+obeyed p (Go r c) = keeps (gone p (addressed r c))
+-- "Codes 2/0 to 7/F write a cell and move right"
+obeyed p (Write c) = puts p (p .attributes .set) c 1
+obeyed p (Second c) = puts p 2 c 1
+obeyed p (Again n) = again p (p .last) n

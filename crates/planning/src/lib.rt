@@ -1,0 +1,47 @@
+// What a value does to the pen, and what it asks of the cells (01, "Screen cells"): nothing, rows 1 to 24 blank, or a
+// character so many times. It never sees the thousand cells.
+//
+// specs/Obeying says what each order does to a pen, specs/Planning what a value does, specs/Grounds and specs/Reach what
+// the claims on waiting grounds and on changed cells speak of; proofs/ holds their laws.
+ghost use mathlib.Core.Path.{_≡_};
+ghost use Rattle.planning.specs.Planning.{plan as planFor};
+
+mod moves;
+mod orders;
+
+use moves::with_sequence;
+use orders::keep_cells;
+use orders::obey;
+use pen::Pen;
+
+// What is asked of the cells.
+pub enum Asked {
+    Nothing,
+    // Rows 1 to 24 blank.
+    Blank,
+    // A character, so many times.
+    Put { set: u8, code: u8, times: u8 },
+}
+
+pub struct Planned {
+    pub pen: Pen,
+    pub asked: Asked,
+}
+
+// One value. A pen out of range, or a value above 127: the pen comes back, and nothing is asked.
+pub fn plan(pen: Pen, value: u8) -> Planned
+    ensures { λ r. ⌜ r ≡ planFor pen value ⌝ }
+{
+    if 127 < value {
+        return keep_cells(pen);
+    }
+    if pen.in_range() {
+        let sequence = pen.sequence;
+        let heard = sequences::hear(sequence, value);
+        let open = heard.sequence;
+        let order = heard.order;
+        obey(with_sequence(pen, open), order)
+    } else {
+        keep_cells(pen)
+    }
+}

@@ -1,0 +1,72 @@
+// What each order does to the pen, and asks of the cells.
+ghost use mathlib.Core.Path.{_≡_};
+ghost use Rattle.planning.specs.Obeying.{asks, keeps, puts, again, obeyed};
+use crate::Asked;
+use crate::Planned;
+use crate::moves::go;
+use crate::moves::go_down;
+use crate::moves::go_home;
+use crate::moves::with_attributes;
+use crate::moves::with_place;
+use crate::moves::with_shown;
+use pen::Last;
+use pen::Pen;
+use sequences::Order;
+
+// Nothing is asked of the cells.
+pub(crate) fn keep_cells(pen: Pen) -> Planned
+    ensures { λ r. ⌜ r ≡ keeps pen ⌝ }
+{
+    Planned {
+        pen,
+        asked: Asked::Nothing,
+    }
+}
+
+// A character, so many times.
+fn put(pen: Pen, set: u8, code: u8, times: u8) -> Planned
+    ensures { λ r. ⌜ r ≡ puts pen set code times ⌝ }
+{
+    Planned {
+        pen,
+        asked: Asked::Put { set, code, times },
+    }
+}
+
+// The last character so many times more.
+fn again(pen: Pen, times: u8) -> Planned
+    ensures { λ r. ⌜ r ≡ again pen (pen .last) times ⌝ }
+{
+    let last = pen.last;
+    match last {
+        Last::Never => keep_cells(pen),
+        Last::Character { set, code } => put(pen, set, code, times),
+    }
+}
+
+pub(crate) fn obey(pen: Pen, order: Order) -> Planned
+    ensures { λ r. ⌜ r ≡ obeyed pen order ⌝ }
+{
+    match order {
+        Order::Skip => keep_cells(pen),
+        Order::Left => keep_cells(with_place(pen, pen.place.left())),
+        Order::Right => keep_cells(with_place(pen, pen.place.right())),
+        Order::Up => keep_cells(with_place(pen, pen.place.up())),
+        Order::Down => keep_cells(go_down(pen)),
+        Order::First => keep_cells(with_place(pen, pen.place.first())),
+        Order::Clear => Planned {
+            pen: go_home(pen),
+            asked: Asked::Blank,
+        },
+        Order::Home => keep_cells(go_home(pen)),
+        Order::ShiftOut => keep_cells(with_attributes(pen, pen.attributes.shift_out())),
+        Order::ShiftIn => keep_cells(with_attributes(pen, pen.attributes.shift_in())),
+        Order::Show => keep_cells(with_shown(pen, true)),
+        Order::Hide => keep_cells(with_shown(pen, false)),
+        Order::Pair(code) => keep_cells(with_attributes(pen, pen.attributes.pair(code))),
+        Order::Go { row, column } => keep_cells(go(pen, cursor::locate(row, column))),
+        Order::Write(code) => put(pen, pen.attributes.set, code, 1),
+        Order::Second(code) => put(pen, 2, code, 1),
+        Order::Again(times) => again(pen, times),
+    }
+}
