@@ -1,8 +1,7 @@
-// A pen moved: to another place, home, down, or to where US leads.
+// A pen with one part changed, or moved: to a place, down, or to where US leads.
 ghost use mathlib.Core.Path.{_≡_};
-ghost use Rattle.cursor.specs.Moves.{home};
 ghost use Rattle.planning.specs.Changing.{withPlace, withAttributes, withSequence, withShown};
-ghost use Rattle.planning.specs.Obeying.{startAt, lowered, keeping, entering, gone};
+ghost use Rattle.planning.specs.Obeying.{startAt, lowered, entering, gone};
 use attributes::Attributes;
 use cursor::Address;
 use cursor::Place;
@@ -49,18 +48,10 @@ pub(crate) fn with_shown(mut pen: Pen, shown: bool) -> Pen
 }
 
 // To a place, with start attributes.
-fn start_at(pen: Pen, place: Place) -> Pen
+pub(crate) fn start_at(pen: Pen, place: Place) -> Pen
     ensures { λ r. ⌜ r ≡ startAt pen place ⌝ }
 {
     with_attributes(with_place(pen, place), attributes::start())
-}
-
-// FF and RS.
-pub(crate) fn go_home(pen: Pen) -> Pen
-    ensures { λ r. ⌜ r ≡ startAt pen home ⌝ }
-{
-    let place = Place { row: 1, column: 1 };
-    start_at(pen, place)
 }
 
 // LF: in row 0 back to what was kept.
@@ -74,30 +65,21 @@ pub(crate) fn go_down(pen: Pen) -> Pen
     }
 }
 
-// What stands now is kept.
-fn keep(mut pen: Pen) -> Pen
-    ensures { λ r. ⌜ r ≡ keeping pen ⌝ }
-{
-    let place = pen.place;
-    let attributes = pen.attributes;
-    let kept = Kept { place, attributes };
-    pen.kept = kept;
-    pen
-}
-
 // What US into this row keeps: what stands now, if it enters row 0 from another row.
-fn enter(pen: Pen, row: u8) -> Pen
+fn enter(mut pen: Pen, row: u8) -> Pen
     ensures { λ r. ⌜ r ≡ entering pen row ⌝ }
 {
     if row == 0 {
         if pen.place.row == 0 {
-            pen
-        } else {
-            keep(pen)
+            return pen;
         }
-    } else {
-        pen
+        let place = pen.place;
+        let attributes = pen.attributes;
+        let kept = Kept { place, attributes };
+        pen.kept = kept;
+        return pen;
     }
+    pen
 }
 
 // US: to the place that its codes name, if there is one.

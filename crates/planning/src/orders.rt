@@ -5,10 +5,11 @@ use crate::Asked;
 use crate::Planned;
 use crate::moves::go;
 use crate::moves::go_down;
-use crate::moves::go_home;
+use crate::moves::start_at;
 use crate::moves::with_attributes;
 use crate::moves::with_place;
 use crate::moves::with_shown;
+use cursor::Place;
 use pen::Last;
 use pen::Pen;
 use sequences::Order;
@@ -47,6 +48,7 @@ fn again(pen: Pen, times: u8) -> Planned
 pub(crate) fn obey(pen: Pen, order: Order) -> Planned
     ensures { λ r. ⌜ r ≡ obeyed pen order ⌝ }
 {
+    let home = Place { row: 1, column: 1 };
     match order {
         Order::Skip => keep_cells(pen),
         Order::Left => keep_cells(with_place(pen, pen.place.left())),
@@ -55,10 +57,10 @@ pub(crate) fn obey(pen: Pen, order: Order) -> Planned
         Order::Down => keep_cells(go_down(pen)),
         Order::First => keep_cells(with_place(pen, pen.place.first())),
         Order::Clear => Planned {
-            pen: go_home(pen),
+            pen: start_at(pen, home),
             asked: Asked::Blank,
         },
-        Order::Home => keep_cells(go_home(pen)),
+        Order::Home => keep_cells(start_at(pen, home)),
         Order::ShiftOut => keep_cells(with_attributes(pen, pen.attributes.shift_out())),
         Order::ShiftIn => keep_cells(with_attributes(pen, pen.attributes.shift_in())),
         Order::Show => keep_cells(with_shown(pen, true)),

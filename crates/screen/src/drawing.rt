@@ -1,7 +1,7 @@
 // What is done to the cells: nothing, rows 1 to 24 blank, or a character written so many times.
 ghost use mathlib.Core.Path.{_≡_};
 ghost use Rattle.cursor.specs.Moves.{On};
-ghost use Rattle.screen.specs.Screens.{indexOf, withPen, blanked, writtenTimes, applied};
+ghost use Rattle.screen.specs.Screens.{indexOf, withPen, writtenTimes, applied};
 use crate::Screen;
 use cursor::Place;
 use pen::Pen;
@@ -21,15 +21,6 @@ impl Screen {
     {
         self.pen = pen;
         self
-    }
-
-    // Rows 1 to 24 blank, row 0 kept.
-    fn clear(self, pen: Pen) -> Screen
-        ensures { λ r. ⌜ r ≡ blanked self pen ⌝ }
-    {
-        let old = self.cells;
-        let cells = cells::clear(old);
-        Screen { cells, pen }
     }
 
     // A character, so many times.
@@ -57,7 +48,11 @@ impl Screen {
     {
         match asked {
             Asked::Nothing => self.with_pen(pen),
-            Asked::Blank => self.clear(pen),
+            Asked::Blank => {
+                let old = self.cells;
+                let cells = cells::clear(old);
+                Screen { cells, pen }
+            }
             Asked::Put { set, code, times } => self.with_pen(pen).write(set, code, times),
         }
     }

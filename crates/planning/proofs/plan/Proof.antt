@@ -1,43 +1,50 @@
-use borrow.Author.Tests.{le-leb, le-ltb, lt-leb, lt-ltb}
+-- `planning::plan` meets its contract. Assumes nothing.
+use borrow.Author.Tests.{le-leb, le-ltb, lt-ltb}
 use borrow.Author.Needs.{needs}
 use Rattle.planning.proofs.plan.Statement.{statement}
 use Rattle.planning.proofs.plan.Tie as tie
 
--- src/lib.rt:36:9
 keep-cells-requires : tie.Need-keep-cells-requires
 keep-cells-requires c κs = search needs
 
--- src/lib.rt:36:9
 returns : tie.Need-returns
-returns c = simp (c .keep-cells .ensures, lt-ltb _ _ (c .before .if1 .taken), lt-leb _ _ (c .before .if1 .taken))
+returns c = simp (c .keep-cells .ensures, lt-ltb _ _ (c .before .if1 .taken))
 
--- src/lib.rt:38:8
 in-range-requires : tie.Need-in-range-requires
 in-range-requires c κs = search needs
 
--- src/lib.rt:40:13
 hear-requires : tie.Need-hear-requires
 hear-requires c κs = search needs
 
--- src/lib.rt:43:14
 with-sequence-requires : tie.Need-with-sequence-requires
 with-sequence-requires c κs = search needs
 
--- src/lib.rt:43:9
 obey-requires : tie.Need-obey-requires
 obey-requires c κs = search needs
 
--- src/lib.rt:45:9
 keep-cells-requires-2 : tie.Need-keep-cells-requires-2
 keep-cells-requires-2 c κs = search needs
 
--- src/lib.rt:32:1
 returns-2 : tie.Need-returns-2
-returns-2 c = simp (c .obey .ensures, c .before .with-sequence .ensures, c .before .before .hear .ensures, c .before .before .before .if2 .taken, ← c .before .before .before .before .in-range .ensures, le-ltb _ _ (c .before .before .before .before .before .if1 .left), le-leb _ _ (c .before .before .before .before .before .if1 .left))
+returns-2 c =
+    simp (
+      c .obey .ensures,
+      c .before .with-sequence .ensures,
+      c .before .before .hear .ensures,
+      c .before .before .before .if2 .taken,
+      ← c .before .before .before .before .in-range .ensures,
+      le-ltb _ _ (c .before .before .before .before .before .if1 .left),
+      le-leb _ _ (c .before .before .before .before .before .if1 .left),
+    )
 
--- src/lib.rt:32:1
 returns-3 : tie.Need-returns-3
-returns-3 c = simp (c .keep-cells2 .ensures, c .before .if2 .left, ← c .before .before .in-range .ensures, le-ltb _ _ (c .before .before .before .if1 .left), le-leb _ _ (c .before .before .before .if1 .left))
+returns-3 c =
+    simp (
+      c .keep-cells2 .ensures,
+      c .before .if2 .left,
+      ← c .before .before .in-range .ensures,
+      le-ltb _ _ (c .before .before .before .if1 .left),
+    )
 
 pub plan-spec : {M : Type 1} → statement M
 plan-spec =

@@ -1,12 +1,11 @@
+-- `pen::Pen::fresh` meets its contract. Assumes nothing.
 use borrow.Author.Needs.{needs}
 use Rattle.pen.proofs.Pen.fresh.Statement.{statement}
 use Rattle.pen.proofs.Pen.fresh.Tie as tie
 
--- src/lib.rt:50:13
 start-requires : tie.Need-start-requires
 start-requires c κs = search needs
 
--- src/lib.rt:46:5
 returns : tie.Need-returns
 returns c = simp (c .start .ensures)
 

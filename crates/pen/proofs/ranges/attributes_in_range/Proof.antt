@@ -1,27 +1,35 @@
-use borrow.Author.Tests.{le-leb, le-ltb, lt-leb, lt-ltb}
+-- `pen::ranges::attributes_in_range` meets its contract. Assumes nothing.
+use borrow.Author.Tests.{le-leb, le-ltb, lt-leb}
 use borrow.Author.Needs.{needs}
 use Rattle.pen.proofs.ranges.attributes_in_range.Statement.{statement}
 use Rattle.pen.proofs.ranges.attributes_in_range.Tie as tie
 
--- src/ranges.rt:35:9
 returns : tie.Need-returns
-returns c = simp (lt-ltb _ _ (c .if1 .taken), lt-leb _ _ (c .if1 .taken))
+returns c = simp (lt-leb _ _ (c .if1 .taken))
 
--- src/ranges.rt:38:9
 returns-2 : tie.Need-returns-2
-returns-2 c = simp (lt-ltb _ _ (c .if2 .taken), lt-leb _ _ (c .if2 .taken), le-ltb _ _ (c .before .before .if1 .left), le-leb _ _ (c .before .before .if1 .left))
+returns-2 c = simp (lt-leb _ _ (c .if2 .taken), le-leb _ _ (c .before .before .if1 .left))
 
--- src/ranges.rt:41:9
 returns-3 : tie.Need-returns-3
-returns-3 c = simp (lt-ltb _ _ (c .if3 .taken), lt-leb _ _ (c .if3 .taken), le-ltb _ _ (c .before .before .if2 .left), le-leb _ _ (c .before .before .if2 .left), le-ltb _ _ (c .before .before .before .before .if1 .left), le-leb _ _ (c .before .before .before .before .if1 .left))
+returns-3 c =
+    simp (
+      lt-leb _ _ (c .if3 .taken),
+      le-leb _ _ (c .before .before .if2 .left),
+      le-leb _ _ (c .before .before .before .before .if1 .left),
+    )
 
--- src/ranges.rt:44:5
 waiting-in-range-requires : tie.Need-waiting-in-range-requires
 waiting-in-range-requires c κs = search needs
 
--- src/ranges.rt:31:1
 returns-4 : tie.Need-returns-4
-returns-4 c = simp (c .waiting-in-range .ensures, le-ltb _ _ (c .before .if3 .left), le-leb _ _ (c .before .if3 .left), le-ltb _ _ (c .before .before .before .if2 .left), le-leb _ _ (c .before .before .before .if2 .left), le-ltb _ _ (c .before .before .before .before .before .if1 .left), le-leb _ _ (c .before .before .before .before .before .if1 .left))
+returns-4 c =
+    simp (
+      c .waiting-in-range .ensures,
+      le-leb _ _ (c .before .if3 .left),
+      le-leb _ _ (c .before .before .before .if2 .left),
+      le-ltb _ _ (c .before .before .before .before .before .if1 .left),
+      le-leb _ _ (c .before .before .before .before .before .if1 .left),
+    )
 
 pub attributes-in-range-spec : {M : Type 1} → statement M
 attributes-in-range-spec =

@@ -1,24 +1,20 @@
+-- `pen::ranges::last_in_range` meets its contract. Assumes nothing.
 use borrow.Author.Needs.{needs}
 use Rattle.pen.proofs.ranges.last_in_range.Statement.{statement}
 use Rattle.pen.proofs.ranges.last_in_range.Tie as tie
 
--- src/ranges.rt:17:24
 enum-told : tie.Need-enum-told
 enum-told c = search needs
 
--- src/ranges.rt:18:27
 enum-known-last : tie.Need-enum-known-last
 enum-known-last c = search needs
 
--- src/ranges.rt:18:42
 is-character-requires : tie.Need-is-character-requires
 is-character-requires c κs = search needs
 
--- src/ranges.rt:13:1
 returns : tie.Need-returns
 returns c = search needs
 
--- src/ranges.rt:13:1
 returns-2 : tie.Need-returns-2
 returns-2 c = simp (c .is-character .ensures, c .before .before .last .given .1)
 

@@ -1,22 +1,24 @@
+-- `pen::ranges::spot_in_range` meets its contract. Assumes nothing.
 use borrow.Author.Needs.{needs}
 use Rattle.pen.specs.Pens.{goodSpot}
 use Rattle.pen.proofs.ranges.spot_in_range.Statement.{statement}
 use Rattle.pen.proofs.ranges.spot_in_range.Tie as tie
 
--- src/ranges.rt:76:8
 on-screen-requires : tie.Need-on-screen-requires
 on-screen-requires c κs = search needs
 
--- src/ranges.rt:77:9
 attributes-in-range-requires : tie.Need-attributes-in-range-requires
 attributes-in-range-requires c κs = search needs
 
--- src/ranges.rt:73:1
 returns : tie.Need-returns
 unfolding goodSpot
-returns c = simp (c .attributes-in-range .ensures, c .before .if1 .taken, ← c .before .before .on-screen .ensures)
+returns c =
+    simp (
+      c .attributes-in-range .ensures,
+      c .before .if1 .taken,
+      ← c .before .before .on-screen .ensures,
+    )
 
--- src/ranges.rt:73:1
 returns-2 : tie.Need-returns-2
 unfolding goodSpot
 returns-2 c = simp (c .if1 .left, ← c .before .on-screen .ensures)

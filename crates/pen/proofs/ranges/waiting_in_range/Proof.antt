@@ -1,20 +1,17 @@
+-- `pen::ranges::waiting_in_range` meets its contract. Assumes nothing.
 use borrow.Author.Needs.{needs}
 use Rattle.pen.proofs.ranges.waiting_in_range.Statement.{statement}
 use Rattle.pen.proofs.ranges.waiting_in_range.Tie as tie
 
--- src/ranges.rt:26:29
 enum-told : tie.Need-enum-told
 enum-told c = search needs
 
--- src/ranges.rt:27:25
 enum-known-waiting : tie.Need-enum-known-waiting
 enum-known-waiting c = search needs
 
--- src/ranges.rt:22:1
 returns : tie.Need-returns
 returns c = search needs
 
--- src/ranges.rt:22:1
 returns-2 : tie.Need-returns-2
 returns-2 c = simp (c .before .waiting .given .1)
 

@@ -1,33 +1,33 @@
-use Rattle.planning.specs.Obeying.{gone}
+-- `planning::moves::go` meets its contract. Assumes nothing.
 use borrow.Author.Needs.{needs}
+use Rattle.planning.specs.Obeying.{gone}
 use Rattle.planning.proofs.moves.go.Statement.{statement}
 use Rattle.planning.proofs.moves.go.Tie as tie
 
--- src/moves.rt:108:29
 enum-told : tie.Need-enum-told
 enum-told c = search needs
 
--- src/moves.rt:109:24
 enum-known-address : tie.Need-enum-known-address
 enum-known-address c = search needs
 
--- src/moves.rt:109:43
 enter-requires : tie.Need-enter-requires
 enter-requires c κs = search needs
 
--- src/moves.rt:109:34
 start-at-requires : tie.Need-start-at-requires
 start-at-requires c κs = search needs
 
--- src/moves.rt:104:1
 returns : tie.Need-returns
 unfolding gone
 returns c = simp (c .enum-told .given .1)
 
--- src/moves.rt:104:1
 returns-2 : tie.Need-returns-2
 unfolding gone
-returns-2 c = simp (c .start-at .ensures, c .before .enter .ensures, c .before .before .before .address .given .1)
+returns-2 c =
+    simp (
+      c .start-at .ensures,
+      c .before .enter .ensures,
+      c .before .before .before .address .given .1,
+    )
 
 pub go-spec : {M : Type 1} → statement M
 go-spec =

@@ -1,31 +1,36 @@
+-- `planning::moves::go_down` meets its contract. Assumes nothing.
 use borrow.Author.Tests.{eq-eqb, ne-eqb}
 use borrow.Author.Needs.{needs}
 use Rattle.planning.proofs.moves.go_down.Statement.{statement}
 use Rattle.planning.proofs.moves.go_down.Tie as tie
 
--- src/moves.rt:71:25
 with-place-requires : tie.Need-with-place-requires
 with-place-requires c κs = search needs
 
--- src/moves.rt:71:9
 with-attributes-requires : tie.Need-with-attributes-requires
 with-attributes-requires c κs = search needs
 
--- src/moves.rt:73:25
 down-requires : tie.Need-down-requires
 down-requires c κs = search needs
 
--- src/moves.rt:73:9
 with-place-requires-2 : tie.Need-with-place-requires-2
 with-place-requires-2 c κs = search needs
 
--- src/moves.rt:67:1
 returns : tie.Need-returns
-returns c = simp (c .with-attributes .ensures, c .before .with-place .ensures, eq-eqb _ _ (c .before .before .if1 .taken))
+returns c =
+    simp (
+      c .with-attributes .ensures,
+      c .before .with-place .ensures,
+      eq-eqb _ _ (c .before .before .if1 .taken),
+    )
 
--- src/moves.rt:67:1
 returns-2 : tie.Need-returns-2
-returns-2 c = simp (c .with-place2 .ensures, c .before .down .ensures, ne-eqb _ _ (c .before .before .if1 .left))
+returns-2 c =
+    simp (
+      c .with-place2 .ensures,
+      c .before .down .ensures,
+      ne-eqb _ _ (c .before .before .if1 .left),
+    )
 
 pub go-down-spec : {M : Type 1} → statement M
 go-down-spec =

@@ -1,28 +1,23 @@
+-- `planning::orders::again` meets its contract. Assumes nothing.
 use borrow.Author.Needs.{needs}
 use Rattle.planning.proofs.orders.again.Statement.{statement}
 use Rattle.planning.proofs.orders.again.Tie as tie
 
--- src/orders.rt:42:24
 enum-told : tie.Need-enum-told
 enum-told c = search needs
 
--- src/orders.rt:42:24
 keep-cells-requires : tie.Need-keep-cells-requires
 keep-cells-requires c κs = search needs
 
--- src/orders.rt:43:27
 enum-known-last : tie.Need-enum-known-last
 enum-known-last c = search needs
 
--- src/orders.rt:43:42
 put-requires : tie.Need-put-requires
 put-requires c κs = search needs
 
--- src/orders.rt:37:1
 returns : tie.Need-returns
 returns c = simp (c .keep-cells .ensures, c .before .enum-told .given .1)
 
--- src/orders.rt:37:1
 returns-2 : tie.Need-returns-2
 returns-2 c = simp (c .put .ensures, c .before .before .last .given .1)
 

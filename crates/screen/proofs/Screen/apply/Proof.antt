@@ -31,7 +31,7 @@ returns c = simp (c .with-pen .ensures, c .before .enum-told .given .1)
 
 returns-2 : tie.Need-returns-2
 unfolding applied
-returns-2 c = simp (c .clear .ensures, c .before .enum-told2 .given .1)
+returns-2 c = simp (c .clear .ensures, c .before .before .enum-told2 .given .1)
 
 returns-3 : tie.Need-returns-3
 unfolding applied
