@@ -26,7 +26,8 @@ use Rattle.pen.specs.Strokes.{afterTimes}
 use Rattle.planning.specs.Changing.{withPlace, withAttributes, withSequence}
 use Rattle.planning.specs.Obeying.{again, gone, obeyed}
 use Rattle.planning.specs.Planning.{finished, afterOrder, unfinished, ordered, penAfter}
-use Rattle.planning.specs.Grounds.{Fate, taken, replaced, dropped, broughtBack, waits, takenWhere, againFate, fate}
+use Rattle.planning.specs.Grounds.{Fate, taken, replaced, dropped, broughtBack, waits}
+use Rattle.planning.specs.Grounds.{takenWhere, againFate, fate}
 use Rattle.planning.specs.Grounds.{outcome}
 
 module _ (p : Pen) (g : ℕ) (e : p .attributes .waiting ≡ Ground g) where

@@ -21,7 +21,8 @@ pub planned-step : (s : Screen) (p : Pen) (b : ℕ) (a : Planned) → a ≡ plan
     → applied s (a .pen) (a .asked) ≡ advanced (withPen s p) b
 unfolding advanced
 planned-step s p b a e =
-    ap (λ (x : Planned). applied s (x .pen) (x .asked)) e ∙ sym (applied-any s p (planned p b .pen) (planned p b .asked))
+    ap (λ (x : Planned). applied s (x .pen) (x .asked)) e
+    ∙ sym (applied-any s p (planned p b .pen) (planned p b .asked))
 
 pub nothing-asked : (s : Screen) (p : Pen) (o : Asked) → o ≡ Nothing → withPen s p ≡ applied s p o
 unfolding applied

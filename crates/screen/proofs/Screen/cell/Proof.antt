@@ -55,7 +55,13 @@ returns-2 : tie.Need-returns-2
 unfolding read
 returns-2 c =
     let t = c .before .before in
-    simp (there (c .before), t .if2 .taken, ← t .before .on-screen .ensures, t .before .before .if1 .left, ← t .before .before .before .is-broken .ensures)
+    simp (
+      there (c .before),
+      t .if2 .taken,
+      ← t .before .on-screen .ensures,
+      t .before .before .if1 .left,
+      ← t .before .before .before .is-broken .ensures,
+    )
 
 returns-3 : tie.Need-returns-3
 unfolding read

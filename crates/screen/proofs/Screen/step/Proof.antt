@@ -52,7 +52,13 @@ unfolding stepped advanced
 returns-3 c =
     let p = c .before .before in
     let n = p .before .before in
-    simp (c .apply .ensures, as-planned p, le-ltb _ _ (p .before .if2 .left), n .if1 .left, ← n .before .is-broken .ensures)
+    simp (
+      c .apply .ensures,
+      as-planned p,
+      le-ltb _ _ (p .before .if2 .left),
+      n .if1 .left,
+      ← n .before .is-broken .ensures,
+    )
 
 pub step-spec : {M : Type 1} → statement M
 step-spec =
