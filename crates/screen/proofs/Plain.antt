@@ -1,6 +1,6 @@
 -- A character that is simply written is planned and written as any other. Assumes nothing.
-use mathlib.Core.Path.{_≡_, refl, sym, ap, ap₂, _∙_}
-use mathlib.Core.Bool.{Bool, true, false, cond}
+use mathlib.Core.Path.{_≡_, refl, sym, ap, ap₂}
+use mathlib.Core.Bool.{Bool, true, cond}
 use mathlib.Core.List.{[], _∷_}
 use Prim.Native.Nat.{ℕ, _+_, _<_}
 use lib.Dec.{ltb, eqb}
@@ -51,7 +51,8 @@ module _ (p : Pen) (b : ℕ) (e : isPlain p b ≡ true) where
   pub plain-room : p .place .column < 40
   plain-room = ltb-true (p .place .column) 40 (tests .1 .1 .1)
 
-  pub plain-stroke : drawn p b (p .attributes) (at (p .place .row) (p .place .column + 1)) ≡ stroke p (p .attributes .set) b
+  pub plain-stroke :
+      drawn p b (p .attributes) (at (p .place .row) (p .place .column + 1)) ≡ stroke p (p .attributes .set) b
   plain-stroke =
       ap₂ (drawn p b) (none-waits (p .attributes .waiting) (p .attributes) (takes (p .attributes .set) b) (tests .1 .0))
       (ap

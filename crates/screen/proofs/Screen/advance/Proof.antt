@@ -143,8 +143,10 @@ loop-again c =
     let t = w .before .before in
     let n = t .before .before .before in
     let l = n .before .loop in
-    let e : laid (l .screen) (w .before .index .result) (w .write-plainly .result) ≡ written (withPen (l .screen) (l .pen)) _ _
-        = ap₂ (laid (l .screen)) (w .before .index .ensures) (w .write-plainly .ensures) in
+    let e :
+    laid (l .screen) (w .before .index .result) (w .write-plainly .result)
+    ≡ written (withPen (l .screen) (l .pen)) _ _
+    = ap₂ (laid (l .screen)) (w .before .index .ensures) (w .write-plainly .ensures) in
     let f = once-asked (l .screen) (l .pen) _ _ _ 1 refl refl in
     let r = again n _ (e ∙ f ∙ planned-step (l .screen) (l .pen) _ _ (plain-plan (l .pen) _ (plain t))) in
     (search needs, r .0, r .1)
@@ -187,9 +189,8 @@ loop-again-3 c =
     let a = c .before in
     let p = a .before .before .before .before in
     let l = p .before .before .before .before .before .loop in
-    let r =
-    again (p .before .before .before .before) _ (a .apply .ensures ∙ planned-step (l .screen) (l .pen) _ _ (as-planned p))
-    in
+    let e = a .apply .ensures ∙ planned-step (l .screen) (l .pen) _ _ (as-planned p) in
+    let r = again (p .before .before .before .before) _ e in
     (search needs, r .0, r .1)
 
 -- ---- one character
@@ -216,7 +217,9 @@ element-set-from-cell-2 : tie.Need-element-set-from-cell-2 Inv-loop μ-loop
 element-set-from-cell-2 c = low-2 c
 
 add-i-4 : tie.Need-add-i-4 Inv-loop μ-loop
-add-i-4 c = room (c .before .before .before .before .before .before .before .before .before .before .before .before .before)
+add-i-4 c =
+    let p = c .before .before .before .before .before .before .before .before .before in
+    room (p .before .before .before .before)
 
 loop-less-4 : tie.Need-loop-less-4 Inv-loop μ-loop
 loop-less-4 c = search needs
@@ -233,7 +236,8 @@ loop-again-4 c =
     let e : laid (l .screen) (w .before .index2 .result) (w .write .result) ≡ written (withPen (l .screen) q) _ _
     = ap₂ (laid (l .screen)) (w .before .index2 .ensures) (w .write .ensures) in
     let f = once-asked (l .screen) q _ _ _ _ (k .asked .given .1) (t .if2 .taken) in
-    let r = again (p .before .before .before .before) _ (e ∙ f ∙ planned-step (l .screen) (l .pen) _ _ (as-planned p)) in
+    let g = planned-step (l .screen) (l .pen) _ _ (as-planned p) in
+    let r = again (p .before .before .before .before) _ (e ∙ f ∙ g) in
     (search needs, r .0, r .1)
 
 -- ---- a character so many times

@@ -1,13 +1,14 @@
+-- `screen::pieces::write_plainly` meets its contract. Assumes nothing.
 use native.Mathlib.Omega.{arith}
 use Rattle.screen.proofs.Plain.{plain-room, plain-stroke}
 use Rattle.screen.proofs.pieces.write_plainly.Statement.{statement}
 use Rattle.screen.proofs.pieces.write_plainly.Tie as tie
 
--- src/pieces.rt:86:17
 add-t10 : tie.Need-add-t10
-add-t10 c = let h = plain-room (c .before .before .args .pen) (c .before .before .args .value) (c .before .before .pre) in omega (arith, h)
+add-t10 c =
+    let s = c .before .before in
+    let h = plain-room (s .args .pen) (s .args .value) (s .pre) in omega (arith, h)
 
--- src/pieces.rt:70:1
 returns : tie.Need-returns
 returns c =
     let s = c .before .before .before in plain-stroke (s .args .pen) (s .args .value) (s .pre)
