@@ -1,7 +1,7 @@
 // The cursor's place on the screen (01, "Screen cells"): its moves by one in page mode, and the place that US names.
 //
 // Every place is taken, also one off the screen, and every move gives a place. specs/Moves says which; proofs/Stays
-// shows that from a place on the screen no move leaves it, and that none but US enters row 0 or leaves it.
+// shows that no move leaves the screen, and proofs/Rows that none by one enters row 0 or leaves it.
 ghost use mathlib.Core.Path.{_≡_};
 ghost use Rattle.cursor.specs.Moves.{onScreen, rowBelow, rowAbove, leftOf, rightOf, upOf};
 ghost use Rattle.cursor.specs.Moves.{downOf, firstOf, addressed};

@@ -1,6 +1,6 @@
 // What each order does to the pen, and asks of the cells.
 ghost use mathlib.Core.Path.{_≡_};
-ghost use Rattle.planning.specs.Obeying.{asks, keeps, puts, again, obeyed};
+ghost use Rattle.planning.specs.Obeying.{keeps, puts, again, obeyed};
 use crate::Asked;
 use crate::Planned;
 use crate::moves::go;
