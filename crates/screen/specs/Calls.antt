@@ -30,7 +30,7 @@ told Broken = record { number = 5; named = [] }
 abbrev pub stepsTo : Screen → Answer → Stepped
 stepsTo s a = record { screen = s; answer = a }
 
--- "broken state .. that state handed back"; "value too large .. state unchanged"
+-- a broken state: "that state handed back"; a value too large: "lent memory and state unchanged"
 unfoldable pub stepped : Screen → ℕ → Stepped
 stepped s b =
     cond (broken s) (stepsTo s Broken) (cond (ltb 127 b) (stepsTo s (TooLarge 0)) (stepsTo (advanced s b) Taken))
