@@ -20,7 +20,7 @@ use Rattle.pen.specs.Strokes.{stroke}
 use Rattle.planning.specs.Obeying.{puts}
 use Rattle.planning.specs.Planning.{planned}
 use Rattle.planning.proofs.Plans.{plan-text}
-use Rattle.screen.specs.Plainly.{isNone, isPlain}
+use Rattle.screen.specs.Turns.{isNone, isPlain}
 
 -- a character with these attributes, and the cursor at this place after it
 abbrev pub drawn : Pen → ℕ → Attributes → Place → Stroke

@@ -2,4 +2,4 @@ pub mod Screens
 pub mod Ranges
 pub mod Calls
 pub mod Claims
-pub mod Plainly
+pub mod Turns

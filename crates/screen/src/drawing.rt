@@ -1,7 +1,7 @@
 // What is done to the cells: nothing, rows 1 to 24 blank, or a character written so many times.
 ghost use mathlib.Core.Path.{_≡_};
 ghost use Rattle.cursor.specs.Moves.{On};
-ghost use Rattle.screen.specs.Screens.{indexOf, withPen, writtenTimes, applied};
+ghost use Rattle.screen.specs.Screens.{indexOf, writtenTimes, applied};
 use crate::Screen;
 use cursor::Place;
 use pen::Pen;
@@ -16,13 +16,6 @@ pub(crate) fn index(place: Place) -> usize
 }
 
 impl Screen {
-    pub(crate) fn with_pen(mut self, pen: Pen) -> Screen
-        ensures { λ r. ⌜ r ≡ withPen self pen ⌝ }
-    {
-        self.pen = pen;
-        self
-    }
-
     // A character, so many times.
     fn write(mut self, set: u8, code: u8, times: u8) -> Screen
         requires { ⌜ On (self .pen .place) ⌝ }
@@ -42,18 +35,19 @@ impl Screen {
     }
 
     // What the pen asks.
-    pub(crate) fn apply(self, pen: Pen, asked: Asked) -> Screen
+    pub(crate) fn apply(mut self, pen: Pen, asked: Asked) -> Screen
         requires { ⌜ On (pen .place) ⌝ }
         ensures { λ r. ⌜ r ≡ applied self pen asked ⌝ }
     {
+        self.pen = pen;
         match asked {
-            Asked::Nothing => self.with_pen(pen),
+            Asked::Nothing => self,
             Asked::Blank => {
                 let old = self.cells;
                 let cells = cells::clear(old);
                 Screen { cells, pen }
             }
-            Asked::Put { set, code, times } => self.with_pen(pen).write(set, code, times),
+            Asked::Put { set, code, times } => self.write(set, code, times),
         }
     }
 }

@@ -12,6 +12,7 @@ mod drawing;
 mod pieces;
 mod ranges;
 mod reading;
+mod turns;
 
 use cells::Cell;
 use cursor::Place;

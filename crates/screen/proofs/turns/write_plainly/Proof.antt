@@ -1,8 +1,8 @@
--- `screen::pieces::write_plainly` meets its contract. Assumes nothing.
+-- `screen::turns::write_plainly` meets its contract. Assumes nothing.
 use native.Mathlib.Omega.{arith}
 use Rattle.screen.proofs.Plain.{plain-room, plain-stroke}
-use Rattle.screen.proofs.pieces.write_plainly.Statement.{statement}
-use Rattle.screen.proofs.pieces.write_plainly.Tie as tie
+use Rattle.screen.proofs.turns.write_plainly.Statement.{statement}
+use Rattle.screen.proofs.turns.write_plainly.Tie as tie
 
 add-t10 : tie.Need-add-t10
 add-t10 c =
