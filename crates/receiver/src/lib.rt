@@ -22,7 +22,7 @@ use outcomes::silent;
 use phases::collect;
 use phases::hear;
 use reader::Verdict;
-use requests::again;
+use requests::ask;
 use states::in_range;
 
 pub enum Phase {
@@ -133,7 +133,7 @@ impl Receiver {
             match phase {
                 Phase::Off => silent(self, 0),
                 Phase::Collecting => silent(self, 0),
-                Phase::Waiting(_) => again(self),
+                Phase::Waiting(_) => ask(self, Judged::Nothing),
             }
         } else {
             silent(self, 5)

@@ -2,12 +2,12 @@
 ghost use mathlib.Core.Path.{_≡_};
 ghost use Prim.Native.Nat.{_<_};
 ghost use Rattle.receiver.specs.Calls.{accepts as acceptsAs, judgedHeld, collecting, listening};
+use crate::Judged;
 use crate::Phase;
 use crate::Receiver;
 use crate::Stepped;
-use crate::outcomes::accept;
 use crate::outcomes::silent;
-use crate::requests::repeat;
+use crate::requests::ask;
 use crate::states::emptied;
 use codes::Listened;
 use reader::Verdict;
@@ -24,7 +24,8 @@ fn accepts(verdict: Verdict) -> bool
     }
 }
 
-// The seventeenth byte: the block is judged where it lies in a copy of what is held.
+// The seventeenth byte: the block is judged where it lies in a copy of what is held. Accepted, its values pass, and the
+// next one is awaited; refused, it is asked for, and awaited.
 fn judge_held(r: Receiver, byte: u8) -> Stepped
     requires { ⌜ r .number < 16 ⌝ }
     ensures { λ s. ⌜ s ≡ judgedHeld r byte ⌝ }
@@ -32,11 +33,19 @@ fn judge_held(r: Receiver, byte: u8) -> Stepped
     let mut arrived = r.held;
     arrived[16] = byte;
     let verdict = block::mend(&mut arrived[..]);
+    let after = (r.number + 1) % 16;
     if accepts(verdict) {
-        accept(r.number, block::values(arrived), verdict)
-    } else {
-        repeat(r.number, verdict)
+        return Stepped {
+            next: emptied(after, Phase::Collecting),
+            answer: 0,
+            values: block::values(arrived),
+            passed: 15,
+            request: [0; 2],
+            asked: 0,
+            judged: Judged::Block(verdict),
+        };
     }
+    ask(emptied(r.number, Phase::Waiting(0)), Judged::Block(verdict))
 }
 
 // Collecting: the byte is held, or it is the seventeenth.

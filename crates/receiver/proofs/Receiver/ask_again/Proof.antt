@@ -30,8 +30,8 @@ silent-requires-2 c κs = search needs
 enum-told-3 : tie.Need-enum-told-3
 enum-told-3 c = search needs
 
-again-requires : tie.Need-again-requires
-again-requires c κs = search needs
+ask-requires : tie.Need-ask-requires
+ask-requires c κs = search needs
 
 silent-requires-3 : tie.Need-silent-requires-3
 silent-requires-3 c κs = search needs
@@ -52,7 +52,7 @@ returns-3 : tie.Need-returns-3
 returns-3 c =
     let s = c .before .before .before .before in
     let e : inRange (was s) ≡ true = sym (s .in-range .ensures) ∙ c .before .before .before .if1 .taken in
-    c .again .ensures
+    c .ask .ensures
     ∙ again-in (was s) (Waiting (c .before .enum-told3 .given .0 .0)) e (c .before .enum-told3 .given .1)
 
 returns-4 : tie.Need-returns-4
@@ -68,7 +68,7 @@ ask-again-spec =
     enum-told-2
     silent-requires-2
     enum-told-3
-    again-requires
+    ask-requires
     silent-requires-3
     returns
     returns-2

@@ -1,11 +1,14 @@
--- `receiver::phases::judge_held` meets its contract: the verdict is the one judged. Assumes nothing.
+-- `receiver::phases::judge_held` meets its contract: the verdict is the one judged, and an array of fifteen is full.
+-- Assumes nothing.
 use mathlib.Core.Path.{ap, sym, _∙_}
-use mathlib.Core.List.{List}
+use mathlib.Core.List.{List, []}
 use Prim.Native.Nat.{ℕ}
 use borrow.Author.Needs.{needs}
+use Rattle.codes.specs.Codes.{request}
 use Rattle.receiver.specs.declared.Receiver.{Receiver}
-use Rattle.receiver.specs.Calls.{accepted}
-use Rattle.receiver.proofs.Cases.{as-judged}
+use Rattle.receiver.specs.declared.Judged.the-variants.{Block}
+use Rattle.receiver.specs.Calls.{giving, accepted}
+use Rattle.receiver.proofs.Cases.{accepting, as-judged}
 use Rattle.receiver.proofs.phases.judge_held.Statement.{statement}
 use Rattle.receiver.proofs.phases.judge_held.Tie as tie
 
@@ -24,34 +27,41 @@ slice-aggregate-mend c = search needs
 mend-requires : tie.Need-mend-requires
 mend-requires c κs = search needs
 
+add-after : tie.Need-add-after
+add-after c = search needs
+
 accepts-requires : tie.Need-accepts-requires
 accepts-requires c κs = search needs
+
+emptied-requires : tie.Need-emptied-requires
+emptied-requires c κs = search needs
 
 values-requires : tie.Need-values-requires
 values-requires c κs = search needs
 
-accept-requires : tie.Need-accept-requires
-accept-requires c κs = search needs
-
-repeat-requires : tie.Need-repeat-requires
-repeat-requires c κs = search needs
-
 returns : tie.Need-returns
 returns c =
-    let a = c .before .before .before in
-    let m = a .before .before in
-    c .accept .ensures
-    ∙ ap (λ (vs : List ℕ). accepted (was m .number) vs (m .mend .result)) (c .before .values .ensures)
+    let t = c .before .before in
+    let m = t .before .before .before .before in
+    accepting (was m .number) (c .values .result) (m .mend .result) (c .before .emptied .ensures) (search needs)
+    ∙ ap (λ (vs : List ℕ). accepted (was m .number) vs (m .mend .result)) (c .values .ensures)
     ∙ as-judged (was m) (last m) (m .mend .result) (m .mend .last .0) (m .mend .ensures)
-    (sym (a .accepts .ensures) ∙ c .before .before .if1 .taken)
+    (sym (t .before .accepts .ensures) ∙ t .if1 .taken)
+
+emptied-requires-2 : tie.Need-emptied-requires-2
+emptied-requires-2 c κs = search needs
+
+ask-requires : tie.Need-ask-requires
+ask-requires c κs = search needs
 
 returns-2 : tie.Need-returns-2
 returns-2 c =
-    let a = c .before .before in
-    let m = a .before .before in
-    c .repeat .ensures
+    let t = c .before .before in
+    let m = t .before .before .before .before in
+    c .ask .ensures
+    ∙ ap (λ (q : Receiver). giving 0 q [] (request (q .number)) (Block (m .mend .result))) (c .before .emptied2 .ensures)
     ∙ as-judged (was m) (last m) (m .mend .result) (m .mend .last .0) (m .mend .ensures)
-    (sym (a .accepts .ensures) ∙ c .before .if1 .left)
+    (sym (t .before .accepts .ensures) ∙ t .if1 .left)
 
 pub judge-held-spec : {M : Type 1} → statement M
 judge-held-spec =
@@ -60,9 +70,11 @@ judge-held-spec =
     array-write-arrived
     slice-aggregate-mend
     mend-requires
+    add-after
     accepts-requires
+    emptied-requires
     values-requires
-    accept-requires
-    repeat-requires
     returns
+    emptied-requires-2
+    ask-requires
     returns-2)
