@@ -1,3 +1,2 @@
 pub mod Attributing
-pub mod Writing
 pub mod Within

@@ -1,15 +1,10 @@
-// How a character is written (01, "Screen cells"): the attributes in force, the pairs of ESC that change them, which
-// character takes a waiting ground, and the cell that is written.
+// The attributes in force (01, "Screen cells"): those at the start, and SO and SI. `pairs` has what ESC does to them, and
+// `writing` the character that is written with them.
 //
-// specs/Attributing says what changes the attributes, specs/Writing what writing a character does, specs/Within what is
-// in range; proofs/Stays shows that attributes in range stay so.
+// specs/Attributing says what changes them, specs/Within what is in range; proofs/Stays shows that attributes in range
+// stay so, and proofs/Mosaics that nothing is inverse while G1 is current.
 ghost use mathlib.Core.Path.{_≡_};
 ghost use Rattle.attributes.specs.Attributing.{startOf, shiftedOut, shiftedIn};
-
-mod pairs;
-mod writing;
-
-use cells::Cell;
 
 // A ground that waits for the character that takes it.
 pub enum Waiting {
@@ -25,12 +20,6 @@ pub struct Attributes {
     pub waiting: Waiting,
     pub flash: bool,
     pub inverse: bool,
-}
-
-// One character written: the attributes in force with and after it, and its cell.
-pub struct Written {
-    pub attributes: Attributes,
-    pub cell: Cell,
 }
 
 // Those at the start.

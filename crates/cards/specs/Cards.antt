@@ -15,7 +15,7 @@ use Rattle.receiver.specs.States.{newReceiver}
 use Rattle.receiver.specs.Runs.{Event, byte, on, run, Sent, sent}
 use Rattle.receiver.specs.Page.{nothing}
 use Rattle.cursor.specs.declared.Place.{Place}
-use Rattle.cursor.specs.Moves.{at}
+use Rattle.cursor.specs.Places.{at}
 use Rattle.cells.specs.declared.Cell.{Cell}
 use Rattle.cells.specs.Characters.{blankOf}
 use Rattle.screen.specs.declared.Answer.the-variants.{Taken}

@@ -5,14 +5,16 @@ use mathlib.Core.List.{[], _∷_}
 use Prim.Native.Nat.{ℕ}
 use Rattle.laws.proofs.Computed.{each}
 use Rattle.cursor.specs.declared.Place.{Place}
-use Rattle.cursor.specs.Moves.{On, onScreen}
-use Rattle.cursor.proofs.Stays.{on-true, true-on, home-on, right-on}
+use Rattle.cursor.specs.Places.{On, onScreen}
+use Rattle.cursor.proofs.Tested.{on-true, true-on, home-on}
+use Rattle.motion.proofs.Stays.{right-on}
 use Rattle.sequences.specs.Hearing.{inRange as goodSequence}
 use Rattle.cells.specs.Within.{Character, InCell}
 use Rattle.cells.proofs.Stays.{character-true, true-character}
 use Rattle.attributes.specs.declared.Attributes.{Attributes}
 use Rattle.attributes.specs.Within.{good, InForce}
-use Rattle.attributes.proofs.Stays.{force-true, true-force, start-in, write-in, cell-in}
+use Rattle.attributes.proofs.Stays.{force-true, true-force, start-in}
+use Rattle.writing.proofs.Stays.{write-in, cell-in}
 use Rattle.pen.specs.declared.Last.{Last}
 use Rattle.pen.specs.declared.Last.the-variants.{Never, Character as Was}
 use Rattle.pen.specs.declared.Pen.{Pen}

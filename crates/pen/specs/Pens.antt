@@ -2,7 +2,7 @@
 use mathlib.Core.Path.{_≡_}
 use mathlib.Core.Bool.{Bool, true, false, _&&_}
 use Rattle.cursor.specs.declared.Place.{Place}
-use Rattle.cursor.specs.Moves.{home, onScreen, On}
+use Rattle.cursor.specs.Places.{home, onScreen, On}
 use Rattle.sequences.specs.declared.Sequence.the-variants.{Free}
 use Rattle.sequences.specs.Hearing.{inRange as goodSequence}
 use Rattle.cells.specs.Within.{goodCharacter, Character}

@@ -1,7 +1,7 @@
 -- What a character written does (01, "Screen cells"). Assumes nothing.
 use Prim.Native.Nat.{ℕ, zero, suc}
-use Rattle.cursor.specs.Moves.{rightOf}
-use Rattle.attributes.specs.Writing.{written}
+use Rattle.motion.specs.Moves.{rightOf}
+use Rattle.writing.specs.Writing.{written}
 use Rattle.pen.specs.declared.Last.the-variants.{Character}
 use Rattle.pen.specs.declared.Pen.{Pen}
 use Rattle.pen.specs.declared.Stroke.{Stroke}

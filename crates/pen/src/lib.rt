@@ -2,13 +2,11 @@
 // kept for the return from row 0, the last character, the unfinished sequence, and whether the cursor is shown.
 //
 // `write` is one character written: its cell, and the pen after it. specs/Pens says what a pen is and which are in
-// range, specs/Strokes what a character does. What a value does to a pen is in the crate `planning`.
+// range, specs/Strokes what a character does. The test of the ranges is in the crate `ranges`, and what a value does to a
+// pen in `planning`.
 ghost use mathlib.Core.Path.{_≡_};
 ghost use Rattle.pen.specs.Pens.{freshPen};
 ghost use Rattle.pen.specs.Strokes.{stroke as strokeOf};
-
-mod ranges;
-
 use attributes::Attributes;
 use cells::Cell;
 use cursor::Place;
@@ -66,10 +64,10 @@ impl Pen {
     pub fn write(self, set: u8, code: u8) -> Stroke
         ensures { λ r. ⌜ r ≡ strokeOf self set code ⌝ }
     {
-        let written = self.attributes.write(set, code);
+        let written = writing::write(self.attributes, set, code);
         let attributes = written.attributes;
         let cell = written.cell;
-        let place = self.place.right();
+        let place = motion::right(self.place);
         let kept = self.kept;
         let sequence = self.sequence;
         let pen = Pen {

@@ -5,8 +5,10 @@ use Prim.Native.Nat.{ℕ, zero, suc, _-_, _%_}
 use lib.Dec.{eqb}
 use Rattle.laws.proofs.Computed.{chosen}
 use Rattle.cursor.specs.declared.Place.{Place}
-use Rattle.cursor.specs.declared.Address.the-variants.{Nowhere, There}
-use Rattle.cursor.specs.Moves.{at, downOf, good}
+use Rattle.addresses.specs.declared.Address.the-variants.{Nowhere, There}
+use Rattle.cursor.specs.Places.{at}
+use Rattle.motion.specs.Moves.{downOf}
+use Rattle.addresses.specs.Addressing.{good}
 use Rattle.sequences.specs.declared.Sequence.{Sequence}
 use Rattle.sequences.specs.declared.Order.{Order}
 use Rattle.sequences.specs.declared.Order.the-variants.{Skip, Left, Right, Up, Down, First, Clear, Home}
@@ -16,9 +18,10 @@ use Rattle.sequences.specs.Hearing.{heard}
 use Rattle.attributes.specs.declared.Waiting.{Waiting}
 use Rattle.attributes.specs.declared.Waiting.the-variants.{Ground}
 use Rattle.attributes.specs.declared.Attributes.{Attributes}
-use Rattle.attributes.specs.Attributing.{paired, grounds, namesGround}
-use Rattle.attributes.specs.Writing.{takes, taking, afterWaiting, afterWriting}
-use Rattle.attributes.proofs.Grounds.{pair-ground, pair-others}
+use Rattle.attributes.specs.Attributing.{grounds}
+use Rattle.pairs.specs.Pairing.{paired, namesGround}
+use Rattle.pairs.proofs.Grounds.{pair-ground, pair-others}
+use Rattle.writing.specs.Writing.{takes, taking, afterWaiting, afterWriting}
 use Rattle.pen.specs.declared.Last.{Last}
 use Rattle.pen.specs.declared.Last.the-variants.{Never, Character}
 use Rattle.pen.specs.declared.Pen.{Pen}

@@ -6,11 +6,13 @@ use native.Mathlib.Omega.{arith}
 use lib.Dec.{eqb, lit≤}
 use Rattle.laws.proofs.Computed.{chosen}
 use Rattle.cursor.specs.declared.Place.{Place}
-use Rattle.cursor.specs.declared.Address.{Address}
-use Rattle.cursor.specs.declared.Address.the-variants.{Nowhere, There}
-use Rattle.cursor.specs.Moves.{On, addressed}
-use Rattle.cursor.proofs.Stays.{home-on, left-on, right-on, up-on, down-on, first-on}
-use Rattle.cursor.proofs.Stays.{Leads, address-on}
+use Rattle.addresses.specs.declared.Address.{Address}
+use Rattle.addresses.specs.declared.Address.the-variants.{Nowhere, There}
+use Rattle.cursor.specs.Places.{On}
+use Rattle.addresses.specs.Addressing.{addressed}
+use Rattle.cursor.proofs.Tested.{home-on}
+use Rattle.motion.proofs.Stays.{left-on, right-on, up-on, down-on, first-on}
+use Rattle.addresses.proofs.Stays.{Leads, address-on}
 use Rattle.sequences.specs.declared.Sequence.{Sequence}
 use Rattle.sequences.specs.declared.Order.{Order}
 use Rattle.sequences.specs.declared.Order.the-variants.{Skip, Left, Right, Up, Down, First, Clear, Home}
@@ -21,7 +23,8 @@ use Rattle.sequences.proofs.Stays.{InOrder, heard-in}
 use Rattle.cells.specs.Within.{Character}
 use Rattle.attributes.specs.declared.Attributes.{Attributes}
 use Rattle.attributes.specs.Within.{InForce}
-use Rattle.attributes.proofs.Stays.{start-in, out-in, in-in, pair-in}
+use Rattle.attributes.proofs.Stays.{start-in, out-in, in-in}
+use Rattle.pairs.proofs.Stays.{pair-in}
 use Rattle.pen.specs.declared.Last.{Last}
 use Rattle.pen.specs.declared.Last.the-variants.{Never, Character as Was}
 use Rattle.pen.specs.declared.Pen.{Pen}

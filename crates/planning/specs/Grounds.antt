@@ -2,15 +2,16 @@
 use mathlib.Core.Bool.{Bool, cond}
 use Prim.Native.Nat.{ℕ, zero, suc, _%_}
 use lib.Dec.{eqb}
-use Rattle.cursor.specs.Moves.{good}
+use Rattle.addresses.specs.Addressing.{good}
 use Rattle.sequences.specs.declared.Order.{Order}
 use Rattle.sequences.specs.declared.Order.the-variants.{Skip, Left, Right, Up, Down, First, Clear, Home}
 use Rattle.sequences.specs.declared.Order.the-variants.{ShiftOut, ShiftIn, Show, Hide, Pair, Go, Write}
 use Rattle.sequences.specs.declared.Order.the-variants.{Second, Again}
 use Rattle.attributes.specs.declared.Waiting.{Waiting}
 use Rattle.attributes.specs.declared.Waiting.the-variants.{Nothing, Ground}
-use Rattle.attributes.specs.Attributing.{grounds, namesGround}
-use Rattle.attributes.specs.Writing.{takes}
+use Rattle.attributes.specs.Attributing.{grounds}
+use Rattle.pairs.specs.Pairing.{namesGround}
+use Rattle.writing.specs.Writing.{takes}
 use Rattle.pen.specs.declared.Last.{Last}
 use Rattle.pen.specs.declared.Last.the-variants.{Never, Character}
 use Rattle.pen.specs.declared.Pen.{Pen}

@@ -3,14 +3,17 @@ use mathlib.Core.Bool.{true, false, cond}
 use Prim.Native.Nat.{ℕ}
 use lib.Dec.{eqb}
 use Rattle.cursor.specs.declared.Place.{Place}
-use Rattle.cursor.specs.declared.Address.{Address}
-use Rattle.cursor.specs.declared.Address.the-variants.{Nowhere, There}
-use Rattle.cursor.specs.Moves.{home, leftOf, rightOf, upOf, downOf, firstOf, addressed}
+use Rattle.addresses.specs.declared.Address.{Address}
+use Rattle.addresses.specs.declared.Address.the-variants.{Nowhere, There}
+use Rattle.cursor.specs.Places.{home}
+use Rattle.motion.specs.Moves.{leftOf, rightOf, upOf, downOf, firstOf}
+use Rattle.addresses.specs.Addressing.{addressed}
 use Rattle.sequences.specs.declared.Order.{Order}
 use Rattle.sequences.specs.declared.Order.the-variants.{Skip, Left, Right, Up, Down, First, Clear, Home}
 use Rattle.sequences.specs.declared.Order.the-variants.{ShiftOut, ShiftIn, Show, Hide, Pair, Go, Write}
 use Rattle.sequences.specs.declared.Order.the-variants.{Second, Again}
-use Rattle.attributes.specs.Attributing.{startOf, shiftedOut, shiftedIn, paired}
+use Rattle.attributes.specs.Attributing.{startOf, shiftedOut, shiftedIn}
+use Rattle.pairs.specs.Pairing.{paired}
 use Rattle.pen.specs.declared.Last.{Last}
 use Rattle.pen.specs.declared.Last.the-variants.{Never, Character}
 use Rattle.pen.specs.declared.Pen.{Pen}

@@ -35,7 +35,7 @@ pub fn plan(pen: Pen, value: u8) -> Planned
     if 127 < value {
         return keep_cells(pen);
     }
-    if pen.in_range() {
+    if ranges::in_range(pen) {
         let sequence = pen.sequence;
         let heard = sequences::hear(sequence, value);
         let open = heard.sequence;

@@ -2,8 +2,8 @@
 ghost use mathlib.Core.Path.{_≡_};
 ghost use Rattle.planning.specs.Changing.{withPlace, withAttributes, withSequence, withShown};
 ghost use Rattle.planning.specs.Obeying.{startAt, lowered, entering, gone};
+use addresses::Address;
 use attributes::Attributes;
-use cursor::Address;
 use cursor::Place;
 use pen::Kept;
 use pen::Pen;
@@ -61,7 +61,7 @@ pub(crate) fn go_down(pen: Pen) -> Pen
     if pen.place.row == 0 {
         with_attributes(with_place(pen, pen.kept.place), pen.kept.attributes)
     } else {
-        with_place(pen, pen.place.down())
+        with_place(pen, motion::down(pen.place))
     }
 }
 

@@ -51,11 +51,11 @@ pub(crate) fn obey(pen: Pen, order: Order) -> Planned
     let home = Place { row: 1, column: 1 };
     match order {
         Order::Skip => keep_cells(pen),
-        Order::Left => keep_cells(with_place(pen, pen.place.left())),
-        Order::Right => keep_cells(with_place(pen, pen.place.right())),
-        Order::Up => keep_cells(with_place(pen, pen.place.up())),
+        Order::Left => keep_cells(with_place(pen, motion::left(pen.place))),
+        Order::Right => keep_cells(with_place(pen, motion::right(pen.place))),
+        Order::Up => keep_cells(with_place(pen, motion::up(pen.place))),
         Order::Down => keep_cells(go_down(pen)),
-        Order::First => keep_cells(with_place(pen, pen.place.first())),
+        Order::First => keep_cells(with_place(pen, motion::first(pen.place))),
         Order::Clear => Planned {
             pen: start_at(pen, home),
             asked: Asked::Blank,
@@ -65,8 +65,8 @@ pub(crate) fn obey(pen: Pen, order: Order) -> Planned
         Order::ShiftIn => keep_cells(with_attributes(pen, pen.attributes.shift_in())),
         Order::Show => keep_cells(with_shown(pen, true)),
         Order::Hide => keep_cells(with_shown(pen, false)),
-        Order::Pair(code) => keep_cells(with_attributes(pen, pen.attributes.pair(code))),
-        Order::Go { row, column } => keep_cells(go(pen, cursor::locate(row, column))),
+        Order::Pair(code) => keep_cells(with_attributes(pen, pairs::pair(pen.attributes, code))),
+        Order::Go { row, column } => keep_cells(go(pen, addresses::locate(row, column))),
         Order::Write(code) => put(pen, pen.attributes.set, code, 1),
         Order::Second(code) => put(pen, 2, code, 1),
         Order::Again(times) => again(pen, times),

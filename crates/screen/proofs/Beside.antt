@@ -5,7 +5,7 @@ use Prim.Native.Nat.{ℕ, _≤_, _<_}
 use lib.Dec.{eqb, eqb→eq}
 use lib.ListN.{set}
 use Rattle.laws.proofs.Computed.{holds}
-use Rattle.cursor.specs.Moves.{On}
+use Rattle.cursor.specs.Places.{On}
 use Rattle.pen.specs.declared.Pen.{Pen}
 use Rattle.pen.specs.declared.Stroke.{Stroke}
 use Rattle.pen.specs.Pens.{InPen}

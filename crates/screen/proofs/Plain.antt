@@ -7,12 +7,13 @@ use lib.Dec.{ltb, eqb}
 use borrow.Author.Tests.{ltb-true}
 use Rattle.laws.proofs.Computed.{holds, Each, each}
 use Rattle.cursor.specs.declared.Place.{Place}
-use Rattle.cursor.specs.Moves.{at, rowBelow}
+use Rattle.cursor.specs.Places.{at}
+use Rattle.motion.specs.Moves.{rowBelow}
 use Rattle.sequences.specs.Hearing.{isFree}
 use Rattle.attributes.specs.declared.Waiting.{Waiting}
 use Rattle.attributes.specs.declared.Waiting.the-variants.{Nothing, Ground}
 use Rattle.attributes.specs.declared.Attributes.{Attributes}
-use Rattle.attributes.specs.Writing.{takes, afterWaiting, cellOf}
+use Rattle.writing.specs.Writing.{takes, afterWaiting, cellOf}
 use Rattle.pen.specs.declared.Last.the-variants.{Character}
 use Rattle.pen.specs.declared.Pen.{Pen}
 use Rattle.pen.specs.declared.Stroke.{Stroke}

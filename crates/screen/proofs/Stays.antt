@@ -7,7 +7,7 @@ use native.Mathlib.Omega.{arith}
 use lib.ListN.{length, length-set, length-append, length-take, length-replicate}
 use Rattle.laws.proofs.Computed.{each}
 use Rattle.cursor.specs.declared.Place.{Place}
-use Rattle.cursor.specs.Moves.{On}
+use Rattle.cursor.specs.Places.{On}
 use Rattle.cells.specs.Characters.{blankOf, cleared}
 use Rattle.cells.specs.Within.{allGood, Character}
 use Rattle.cells.proofs.Stays.{all-true, true-all, all-set, blanks-in, cleared-in}

@@ -11,8 +11,9 @@ use lib.Seq.{getD-set-same, getD-set-other}
 use borrow.Author.Tests.{eqb-true, eqb-false}
 use Rattle.laws.proofs.Computed.{each, holds, fails}
 use Rattle.cursor.specs.declared.Place.{Place}
-use Rattle.cursor.specs.Moves.{at, On, rightOf}
-use Rattle.cursor.proofs.Stays.{right-on}
+use Rattle.cursor.specs.Places.{at, On}
+use Rattle.motion.specs.Moves.{rightOf}
+use Rattle.motion.proofs.Stays.{right-on}
 use Rattle.sequences.specs.declared.Sequence.{Sequence}
 use Rattle.sequences.specs.declared.Sequence.the-variants.{Separator}
 use Rattle.sequences.specs.Hearing.{isSeparator, control}

@@ -6,7 +6,7 @@ use lib.Dec.{ltb, eqb}
 use lib.ListN.{length}
 use Rattle.numbers.specs.Numbers.{Conditions, numberOf, Told}
 use Rattle.values.specs.Large.{firstLarge}
-use Rattle.cursor.specs.Moves.{at, onScreen}
+use Rattle.cursor.specs.Places.{at, onScreen}
 use Rattle.screen.specs.declared.Screen.{Screen}
 use Rattle.screen.specs.declared.Answer.{Answer}
 use Rattle.screen.specs.declared.Answer.the-variants.{Taken, TooLarge, Broken}

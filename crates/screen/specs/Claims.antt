@@ -4,7 +4,7 @@ use mathlib.Core.List.{List, [], _∷_, _++_}
 use Prim.Native.Nat.{ℕ, zero, suc}
 use lib.ListN.{replicate}
 use Rattle.cursor.specs.declared.Place.{Place}
-use Rattle.cursor.specs.Moves.{rightOf}
+use Rattle.motion.specs.Moves.{rightOf}
 use Rattle.sequences.specs.declared.Sequence.the-variants.{Free}
 use Rattle.planning.specs.Changing.{withSequence}
 use Rattle.screen.specs.declared.Screen.{Screen}

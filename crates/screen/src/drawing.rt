@@ -1,6 +1,6 @@
 // What is done to the cells: nothing, rows 1 to 24 blank, or a character written so many times.
 ghost use mathlib.Core.Path.{_≡_};
-ghost use Rattle.cursor.specs.Moves.{On};
+ghost use Rattle.cursor.specs.Places.{On};
 ghost use Rattle.screen.specs.Screens.{indexOf, writtenTimes, applied};
 use crate::Screen;
 use cursor::Place;

@@ -8,9 +8,9 @@ ghost use mathlib.Core.Path.{_≡_};
 ghost use Rattle.screen.specs.Screens.{freshScreen};
 ghost use Rattle.screen.specs.Calls.{stepped};
 
+mod broken;
 mod drawing;
 mod pieces;
-mod ranges;
 mod reading;
 mod turns;
 

@@ -5,8 +5,8 @@ use native.Mathlib.Omega.{arith}
 use lib.ListN.{length, getD}
 use borrow.Author.Needs.{needs}
 use Rattle.laws.proofs.Lists.{getD-any, length-mapped}
-use Rattle.cursor.specs.Moves.{at, On}
-use Rattle.cursor.proofs.Stays.{true-on}
+use Rattle.cursor.specs.Places.{at, On}
+use Rattle.cursor.proofs.Tested.{true-on}
 use Rattle.cells.specs.Characters.{blankOf}
 use Rattle.cells.proofs.Stays.{noCell}
 use Rattle.screen.specs.Screens.{cellAt}

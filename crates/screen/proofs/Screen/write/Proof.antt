@@ -5,8 +5,8 @@ use native.Mathlib.Omega.{arith}
 use native.Mathlib.Numerals.{add-one}
 use lib.ListN.{set}
 use borrow.Author.Needs.{needs}
-use Rattle.cursor.specs.Moves.{On}
-use Rattle.cursor.proofs.Stays.{right-on}
+use Rattle.cursor.specs.Places.{On}
+use Rattle.motion.proofs.Stays.{right-on}
 use Rattle.pen.specs.declared.Stroke.{Stroke}
 use Rattle.pen.specs.Strokes.{stroke}
 use Rattle.screen.specs.declared.Screen.{Screen}

@@ -1,5 +1,7 @@
 -- The theorem is proved where its words are. Assumes nothing.
-use Rattle.attributes.proofs.Mosaics.{start-upright, out-upright, in-upright, pair-upright, write-upright}
+use Rattle.attributes.proofs.Mosaics.{start-upright, out-upright, in-upright}
+use Rattle.pairs.proofs.Mosaics.{pair-upright}
+use Rattle.writing.proofs.Mosaics.{write-upright}
 use Rattle.screen_demands.proofs.changes.nothing_is_inverse_in_g1.Statement.{statement}
 use Rattle.screen_demands.proofs.changes.nothing_is_inverse_in_g1.Tie as tie
 

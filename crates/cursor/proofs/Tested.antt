@@ -1,0 +1,20 @@
+-- What the test of a place says. Assumes nothing.
+use mathlib.Core.Path.{_≡_}
+use mathlib.Core.Bool.{true}
+use mathlib.Core.List.{[], _∷_}
+use lib.Dec.{leb, lit≤}
+use borrow.Author.Tests.{leb-true, le-leb}
+use Rattle.laws.proofs.Computed.{each}
+use Rattle.cursor.specs.declared.Place.{Place}
+use Rattle.cursor.specs.Places.{home, On, onScreen}
+
+pub on-true : (p : Place) → On p → onScreen p ≡ true
+on-true p h = simp (le-leb _ _ (h .row), le-leb _ _ (h .low), le-leb _ _ (h .high))
+
+pub true-on : (p : Place) → onScreen p ≡ true → On p
+true-on p e =
+    let t = each (leb (p .row) 24 ∷ leb 1 (p .column) ∷ leb (p .column) 40 ∷ []) e in
+    record { row = leb-true _ _ (t .0); low = leb-true _ _ (t .1 .0); high = leb-true _ _ (t .1 .1) }
+
+pub home-on : On home
+home-on = record { row = lit≤ tt; low = lit≤ tt; high = lit≤ tt }

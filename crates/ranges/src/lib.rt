@@ -1,0 +1,102 @@
+// Whether a pen lies in the ranges of the page. The crates `pen`, `attributes` and `sequences` say which do
+// (`specs/Pens`, `specs/Within`, `specs/Hearing`), and `pen`'s proofs/Stays that a pen in range stays so.
+ghost use mathlib.Core.Path.{_≡_};
+ghost use Rattle.sequences.specs.Hearing.{inRange as goodSequence};
+ghost use Rattle.attributes.specs.Within.{goodWaiting, good};
+ghost use Rattle.pen.specs.Pens.{goodLast, goodSpot, inRange};
+use attributes::Attributes;
+use attributes::Waiting;
+use cursor::Place;
+use pen::Last;
+use pen::Pen;
+use sequences::Sequence;
+
+fn last_in_range(last: Last) -> bool
+    ensures { λ r. ⌜ r ≡ goodLast last ⌝ }
+{
+    match last {
+        Last::Never => true,
+        Last::Character { set, code } => cells::is_character(set, code),
+    }
+}
+
+fn waiting_in_range(waiting: Waiting) -> bool
+    ensures { λ r. ⌜ r ≡ goodWaiting waiting ⌝ }
+{
+    match waiting {
+        Waiting::Nothing => true,
+        Waiting::Ground(colour) => colour <= 7,
+    }
+}
+
+fn attributes_in_range(attributes: Attributes) -> bool
+    ensures { λ r. ⌜ r ≡ good attributes ⌝ }
+{
+    if 1 < attributes.set {
+        return false;
+    }
+    if 7 < attributes.ink {
+        return false;
+    }
+    if 7 < attributes.ground {
+        return false;
+    }
+    let waiting = attributes.waiting;
+    waiting_in_range(waiting)
+}
+
+// Whether the rules leave such a sequence unfinished.
+fn sequence_in_range(sequence: Sequence) -> bool
+    ensures { λ r. ⌜ r ≡ goodSequence sequence ⌝ }
+{
+    match sequence {
+        Sequence::Free => true,
+        Sequence::Escape => true,
+        Sequence::Long => true,
+        Sequence::Control => true,
+        Sequence::Separator => true,
+        Sequence::Repeat => true,
+        Sequence::Single => true,
+        Sequence::Address => true,
+        Sequence::Row(row) => {
+            if row < 32 {
+                return false;
+            }
+            if 127 < row {
+                return false;
+            }
+            true
+        }
+    }
+}
+
+// A place on the screen, with attributes in range.
+fn spot_in_range(place: Place, attributes: Attributes) -> bool
+    ensures { λ r. ⌜ r ≡ goodSpot place attributes ⌝ }
+{
+    if place.on_screen() {
+        attributes_in_range(attributes)
+    } else {
+        false
+    }
+}
+
+pub fn in_range(pen: Pen) -> bool
+    ensures { λ r. ⌜ r ≡ inRange pen ⌝ }
+{
+    if spot_in_range(pen.place, pen.attributes) {
+        if spot_in_range(pen.kept.place, pen.kept.attributes) {
+            let last = pen.last;
+            if last_in_range(last) {
+                let sequence = pen.sequence;
+                sequence_in_range(sequence)
+            } else {
+                false
+            }
+        } else {
+            false
+        }
+    } else {
+        false
+    }
+}

@@ -1,0 +1,21 @@
+-- Attributes in range stay so when a character is written, and its cell is in range. Assumes nothing.
+use mathlib.Core.Bool.{Bool}
+use Prim.Native.Nat.{ℕ}
+use Rattle.laws.proofs.Computed.{chosen}
+use Rattle.cells.specs.Within.{Character, InCell}
+use Rattle.attributes.specs.declared.Waiting.{Waiting}
+use Rattle.attributes.specs.declared.Waiting.the-variants.{Nothing, Ground}
+use Rattle.attributes.specs.declared.Attributes.{Attributes}
+use Rattle.attributes.specs.Within.{InWaiting, InForce}
+use Rattle.writing.specs.Writing.{takes, afterWaiting, afterWriting, cellOf}
+
+waited-in : {a : Attributes} (w : Waiting) (t : Bool) → InWaiting w → InForce a → InForce (afterWaiting w a t)
+waited-in Nothing t k h = h
+waited-in (Ground g) t k h =
+    chosen InForce t (λ e. record { set = h .set; ink = h .ink; ground = k; waiting = tt }) (λ e. h)
+
+pub write-in : {a : Attributes} (s d : ℕ) → InForce a → InForce (afterWriting a s d)
+write-in {a} s d h = waited-in (a .waiting) (takes s d) (h .waiting) h
+
+pub cell-in : {a : Attributes} {s d : ℕ} → Character s d → InForce a → InCell (cellOf a s d)
+cell-in k h = record { character = k; ink = h .ink; ground = h .ground }

@@ -1,0 +1,25 @@
+-- What takes a ground: a G0 space or any G1 character, and nothing else. Assumes nothing.
+use mathlib.Core.Path.{_≡_, refl}
+use mathlib.Core.Bool.{Bool, true, false, _&&_, _||_}
+use mathlib.Core.Logic.{_⊎_, inl, inr}
+use Prim.Native.Nat.{ℕ}
+use lib.Dec.{eqb}
+use borrow.Author.Tests.{eqb-true}
+use Rattle.laws.proofs.Computed.{holds}
+use Rattle.writing.specs.Writing.{takes}
+
+pub taker : (s d : ℕ) → takes s d ≡ true → (s ≡ 1) ⊎ ((s ≡ 0) × (d ≡ 32))
+taker s d e = go (eqb s 1) (eqb s 0) (eqb d 32) refl refl refl e
+  where
+    go : (t u v : Bool) → eqb s 1 ≡ t → eqb s 0 ≡ u → eqb d 32 ≡ v → (t || (u && v)) ≡ true
+        → (s ≡ 1) ⊎ ((s ≡ 0) × (d ≡ 32))
+    go true u v f g h k = inl (eqb-true s 1 f)
+    go false true true f g h k = inr (eqb-true s 0 g, eqb-true d 32 h)
+    go false true false f g h k = absurd (holds k)
+    go false false v f g h k = absurd (holds k)
+
+pub mosaic-takes : (d : ℕ) → takes 1 d ≡ true
+mosaic-takes d = refl
+
+pub space-takes : takes 0 32 ≡ true
+space-takes = refl

@@ -1,0 +1,13 @@
+-- `writing::write` meets its contract. Assumes nothing.
+use borrow.Author.Needs.{needs}
+use Rattle.writing.proofs.write.Statement.{statement}
+use Rattle.writing.proofs.write.Tie as tie
+
+after-requires : tie.Need-after-requires
+after-requires c κs = search needs
+
+returns : tie.Need-returns
+returns c = simp (c .after .ensures)
+
+pub write-spec : {M : Type 1} → statement M
+write-spec = tie.close (tie.spec after-requires returns)
