@@ -1,15 +1,16 @@
 -- The bench cards, computed. Assumes nothing.
 use mathlib.Core.Path.{refl}
 use mathlib.Core.List.{List, [], _∷_, _++_}
+use Rattle.values.specs.Large.{firstLarge}
 use Rattle.division.specs.Division.{lowBits, bits, reduce, divide, checkBits}
 use Rattle.parity.specs.Parity.{ones, even, allEven, withParity}
 use Rattle.validity.specs.Block.{codeBits, remainder, valid}
 use Rattle.validity.specs.Changed.{flip}
-use Rattle.values.specs.Large.{firstLarge}
 use Rattle.maker.specs.Making.{useful, sealed, blockOf}
 use Rattle.reader.specs.Judging.{tryFrom, verdict, left}
-use Rattle.cells.specs.Characters.{cleared}
-use Rattle.cells.specs.Within.{goodCharacter, allGood}
+use Rattle.cells.specs.Within.{goodCharacter}
+use Rattle.sheet.specs.Clearing.{cleared}
+use Rattle.sheet.specs.Within.{allGood}
 use Rattle.pen.specs.Pens.{goodSpot, inRange as penInRange}
 use Rattle.planning.specs.Obeying.{gone, obeyed}
 use Rattle.screen.specs.Screens.{freshScreen, written, writtenTimes, applied, advanced, advancedBy}

@@ -1,2 +1,1 @@
-pub mod Stays
-pub mod Blanked
+pub mod Tested

@@ -1,23 +1,15 @@
 -- "In range are: sets G0, G1, G2 for cells and the last character ..; codes 2/0 to 7/F; colours 0 to 7". Assumes
 -- nothing.
-use mathlib.Core.Bool.{Bool, true, _&&_}
-use mathlib.Core.List.{List, [], _∷_}
+use mathlib.Core.Bool.{Bool, _&&_}
 use Prim.Native.Nat.{ℕ, _≤_}
 use lib.Dec.{leb}
 use Rattle.cells.specs.declared.Cell.{Cell}
 
--- ---- the tests
+-- ---- the test
 
 -- a set and a code
 unfoldable pub goodCharacter : ℕ → ℕ → Bool
 goodCharacter s d = leb s 2 && (leb 32 d && leb d 127)
-
-abbrev pub goodCell : Cell → Bool
-goodCell c = leb (c .ink) 7 && (leb (c .ground) 7 && goodCharacter (c .set) (c .code))
-
-unfoldable pub allGood : List Cell → Bool
-allGood [] = true
-allGood (c ∷ cs) = goodCell c && allGood cs
 
 -- ---- the ranges
 
@@ -30,7 +22,3 @@ pub record InCell (c : Cell) : Type 0 where
   pub character : Character (c .set) (c .code)
   pub ink : c .ink ≤ 7
   pub ground : c .ground ≤ 7
-
-pub data AllIn : List Cell → Type 0 where
-  none : AllIn []
-  also : {c : Cell} {cs : List Cell} → InCell c → AllIn cs → AllIn (c ∷ cs)

@@ -12,6 +12,7 @@ use lib.Seq.{take-at, take-suc, take-all, getD-at, getD-take, length-take-le}
 use lib.Bits.{bitXor, xor-self}
 use Rattle.laws.proofs.Computed.{and-left, and-right, both, is-true}
 use Rattle.laws.proofs.Xor.{xor-zero-eq}
+use Rattle.values.specs.Large.{Values}
 use Rattle.division.specs.Division.{lowBits, checkBits}
 use Rattle.division.proofs.Steps.{check-lt}
 use Rattle.parity.specs.Parity.{ones, even, allEven, withParity}
@@ -19,7 +20,6 @@ use Rattle.parity.proofs.Parities.{parity-even, parity-off, parity-back}
 use Rattle.validity.specs.Block.{remainder, Valid, Bytes}
 use Rattle.validity.proofs.Powers.{remainder-by-check}
 use Rattle.validity.proofs.Validity.{valid-length, valid-even, valid-remainder, valid-last, is-valid}
-use Rattle.values.specs.Large.{Values}
 use Rattle.maker.specs.Making.{useful, sealed, blockOf, valuesOf}
 
 -- ---- even bytes

@@ -6,9 +6,9 @@ use Prim.Native.Nat.{ℕ, _-_, _%_}
 use lib.Dec.{eqb, ltb}
 use lib.ListN.{length, take, drop, replicate}
 use Rattle.numbers.specs.Numbers.{Conditions, numberOf, Told}
+use Rattle.values.specs.Large.{firstLarge}
 use Rattle.division.specs.Division.{checkBits}
 use Rattle.parity.specs.Parity.{withParity}
-use Rattle.values.specs.Large.{firstLarge}
 use Rattle.maker.specs.declared.Made.{Made}
 use Rattle.maker.specs.declared.Made.the-variants.{Taken, WrongLength, TooLarge, NoRoom}
 

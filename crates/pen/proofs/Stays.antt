@@ -10,7 +10,7 @@ use Rattle.cursor.proofs.Tested.{on-true, true-on, home-on}
 use Rattle.motion.proofs.Stays.{right-on}
 use Rattle.sequences.specs.Hearing.{inRange as goodSequence}
 use Rattle.cells.specs.Within.{Character, InCell}
-use Rattle.cells.proofs.Stays.{character-true, true-character}
+use Rattle.cells.proofs.Tested.{character-true, true-character}
 use Rattle.attributes.specs.declared.Attributes.{Attributes}
 use Rattle.attributes.specs.Within.{good, InForce}
 use Rattle.attributes.proofs.Stays.{force-true, true-force, start-in}

@@ -5,9 +5,9 @@ use Prim.Native.Nat.{ℕ, zero, suc, _-_, _%_}
 use lib.Dec.{eqb}
 use Rattle.laws.proofs.Computed.{chosen}
 use Rattle.cursor.specs.declared.Place.{Place}
-use Rattle.addresses.specs.declared.Address.the-variants.{Nowhere, There}
 use Rattle.cursor.specs.Places.{at}
 use Rattle.motion.specs.Moves.{downOf}
+use Rattle.addresses.specs.declared.Address.the-variants.{Nowhere, There}
 use Rattle.addresses.specs.Addressing.{good}
 use Rattle.sequences.specs.declared.Sequence.{Sequence}
 use Rattle.sequences.specs.declared.Order.{Order}

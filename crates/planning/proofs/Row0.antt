@@ -6,10 +6,10 @@ use native.Mathlib.Omega.{arith}
 use lib.Dec.{eqb, lit≤}
 use borrow.Author.Tests.{eq-eqb, ne-eqb, le-leb}
 use Rattle.cursor.specs.declared.Place.{Place}
-use Rattle.addresses.specs.declared.Address.{Address}
-use Rattle.addresses.specs.declared.Address.the-variants.{Nowhere, There}
 use Rattle.cursor.specs.Places.{at}
 use Rattle.motion.specs.Moves.{downOf}
+use Rattle.addresses.specs.declared.Address.{Address}
+use Rattle.addresses.specs.declared.Address.the-variants.{Nowhere, There}
 use Rattle.addresses.specs.Addressing.{good, addressed}
 use Rattle.sequences.specs.declared.Sequence.{Sequence}
 use Rattle.sequences.specs.declared.Sequence.the-variants.{Free, Separator, Row}

@@ -6,12 +6,12 @@ use native.Mathlib.Omega.{arith}
 use lib.Dec.{eqb, lit≤}
 use Rattle.laws.proofs.Computed.{chosen}
 use Rattle.cursor.specs.declared.Place.{Place}
-use Rattle.addresses.specs.declared.Address.{Address}
-use Rattle.addresses.specs.declared.Address.the-variants.{Nowhere, There}
 use Rattle.cursor.specs.Places.{On}
-use Rattle.addresses.specs.Addressing.{addressed}
 use Rattle.cursor.proofs.Tested.{home-on}
 use Rattle.motion.proofs.Stays.{left-on, right-on, up-on, down-on, first-on}
+use Rattle.addresses.specs.declared.Address.{Address}
+use Rattle.addresses.specs.declared.Address.the-variants.{Nowhere, There}
+use Rattle.addresses.specs.Addressing.{addressed}
 use Rattle.addresses.proofs.Stays.{Leads, address-on}
 use Rattle.sequences.specs.declared.Sequence.{Sequence}
 use Rattle.sequences.specs.declared.Order.{Order}

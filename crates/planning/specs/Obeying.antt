@@ -3,10 +3,10 @@ use mathlib.Core.Bool.{true, false, cond}
 use Prim.Native.Nat.{ℕ}
 use lib.Dec.{eqb}
 use Rattle.cursor.specs.declared.Place.{Place}
-use Rattle.addresses.specs.declared.Address.{Address}
-use Rattle.addresses.specs.declared.Address.the-variants.{Nowhere, There}
 use Rattle.cursor.specs.Places.{home}
 use Rattle.motion.specs.Moves.{leftOf, rightOf, upOf, downOf, firstOf}
+use Rattle.addresses.specs.declared.Address.{Address}
+use Rattle.addresses.specs.declared.Address.the-variants.{Nowhere, There}
 use Rattle.addresses.specs.Addressing.{addressed}
 use Rattle.sequences.specs.declared.Order.{Order}
 use Rattle.sequences.specs.declared.Order.the-variants.{Skip, Left, Right, Up, Down, First, Clear, Home}

@@ -5,9 +5,9 @@ use mathlib.Core.List.{List, [], _∷_}
 use Prim.Native.Nat.{ℕ}
 use lib.Dec.{eqb}
 use lib.ListN.{length}
+use Rattle.numbers.specs.Numbers.{Told}
 use Rattle.validity.proofs.Validity.{valid-length}
 use Rattle.validity.proofs.Alone.{flipped-length}
-use Rattle.numbers.specs.Numbers.{Told}
 use Rattle.reader.specs.declared.Verdict.{Verdict}
 use Rattle.reader.specs.declared.Verdict.the-variants.{Clean, Mended, Repeat, WrongLength}
 use Rattle.reader.specs.Judging.{verdict, told, judged, leftBy, left, handedBy, handed}

@@ -10,8 +10,8 @@ use lib.ListN.{length, getD, take, drop, replicate, length-append, length-replic
 use lib.ListN.{take-append-drop, drop-of-length-le, replicate-append-replicate}
 use lib.Seq.{take-all, length-take-le, take-append-add}
 use Rattle.laws.proofs.Computed.{apart}
-use Rattle.validity.specs.Block.{Valid}
 use Rattle.values.specs.Large.{Values}
+use Rattle.validity.specs.Block.{Valid}
 use Rattle.maker.specs.Making.{blockOf}
 use Rattle.maker.proofs.Blocks.{made-valid}
 use Rattle.receiver.specs.Calls.{padded}

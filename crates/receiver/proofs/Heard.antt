@@ -7,11 +7,11 @@ use Prim.Native.Nat.{ℕ, _+_, _%_, _≤_, _<_}
 use native.Mathlib.Nat.{mod-lt, zero-lt-suc}
 use native.Mathlib.Omega.{arith}
 use lib.ListN.{length}
+use Rattle.values.specs.Large.{Values}
 use Rattle.validity.specs.Changed.{flip, Near, same, changed}
 use Rattle.validity.specs.Block.{Valid}
 use Rattle.validity.proofs.Flips.{flip-length}
 use Rattle.validity.proofs.Validity.{valid-length}
-use Rattle.values.specs.Large.{Values}
 use Rattle.maker.specs.Making.{blockOf, valuesOf}
 use Rattle.maker.proofs.Blocks.{made-valid, values-back}
 use Rattle.reader.specs.Judging.{mendable}

@@ -8,8 +8,8 @@ use lib.Dec.{ltb}
 use lib.ListN.{length, replicate}
 use lib.Seq.{take-at}
 use Rattle.numbers.specs.Numbers.{numberOf}
-use Rattle.validity.proofs.Validity.{valid-length}
 use Rattle.values.specs.Large.{Values}
+use Rattle.validity.proofs.Validity.{valid-length}
 use Rattle.maker.specs.Making.{valuesOf}
 use Rattle.maker.proofs.Blocks.{values-length, values-low}
 use Rattle.reader.specs.declared.Verdict.{Verdict}

@@ -8,9 +8,9 @@ use native.Mathlib.Omega.{arith}
 use lib.ListN.{length, getD, take, drop, length-map}
 use lib.Seq.{length-take-le, take-at, drop-at, split-at, drop-cons}
 use Rattle.laws.proofs.Lists.{nil-cons}
+use Rattle.values.specs.Large.{Values}
 use Rattle.validity.specs.Changed.{flip, same}
 use Rattle.validity.specs.Block.{Valid}
-use Rattle.values.specs.Large.{Values}
 use Rattle.maker.specs.Making.{blockOf}
 use Rattle.maker.proofs.Blocks.{made-valid}
 use Rattle.codes.specs.Codes.{syn, four, request, Nowhere}

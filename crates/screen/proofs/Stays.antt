@@ -8,9 +8,11 @@ use lib.ListN.{length, length-set, length-append, length-take, length-replicate}
 use Rattle.laws.proofs.Computed.{each}
 use Rattle.cursor.specs.declared.Place.{Place}
 use Rattle.cursor.specs.Places.{On}
-use Rattle.cells.specs.Characters.{blankOf, cleared}
-use Rattle.cells.specs.Within.{allGood, Character}
-use Rattle.cells.proofs.Stays.{all-true, true-all, all-set, blanks-in, cleared-in}
+use Rattle.cells.specs.Characters.{blankOf}
+use Rattle.cells.specs.Within.{Character}
+use Rattle.sheet.specs.Clearing.{cleared}
+use Rattle.sheet.specs.Within.{allGood}
+use Rattle.sheet.proofs.Stays.{all-true, true-all, all-set, blanks-in, cleared-in}
 use Rattle.pen.specs.declared.Pen.{Pen}
 use Rattle.pen.specs.Pens.{inRange as penInRange, InPen}
 use Rattle.pen.proofs.Stays.{pen-true, true-pen, fresh-in, after-in, stroke-cell}

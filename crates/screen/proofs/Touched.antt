@@ -19,8 +19,9 @@ use Rattle.sequences.specs.declared.Sequence.the-variants.{Separator}
 use Rattle.sequences.specs.Hearing.{isSeparator, control}
 use Rattle.sequences.proofs.Codes.{heard-control}
 use Rattle.cells.specs.declared.Cell.{Cell}
-use Rattle.cells.specs.Characters.{blankOf, cleared}
-use Rattle.cells.proofs.Blanked.{row-0-kept, others-blank}
+use Rattle.cells.specs.Characters.{blankOf}
+use Rattle.sheet.specs.Clearing.{cleared}
+use Rattle.sheet.proofs.Blanked.{row-0-kept, others-blank}
 use Rattle.pen.specs.declared.Pen.{Pen}
 use Rattle.pen.specs.Strokes.{stroke}
 use Rattle.planning.specs.declared.Asked.{Asked}

@@ -2,7 +2,7 @@
 use mathlib.Core.Path.{_≡_}
 use mathlib.Core.Bool.{Bool, _&&_, not}
 use lib.ListN.{length}
-use Rattle.cells.specs.Within.{allGood, AllIn}
+use Rattle.sheet.specs.Within.{allGood, AllIn}
 use Rattle.pen.specs.Pens.{inRange as penInRange, InPen}
 use Rattle.screen.specs.declared.Screen.{Screen}
 

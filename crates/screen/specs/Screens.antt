@@ -4,7 +4,8 @@ use Prim.Native.Nat.{ℕ, zero, suc, _+_, _-_, _*_}
 use lib.ListN.{set, getD, replicate}
 use Rattle.cursor.specs.declared.Place.{Place}
 use Rattle.cells.specs.declared.Cell.{Cell}
-use Rattle.cells.specs.Characters.{blankOf, cleared}
+use Rattle.cells.specs.Characters.{blankOf}
+use Rattle.sheet.specs.Clearing.{cleared}
 use Rattle.pen.specs.declared.Pen.{Pen}
 use Rattle.pen.specs.Pens.{freshPen}
 use Rattle.pen.specs.Strokes.{stroke}

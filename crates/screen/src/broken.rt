@@ -9,7 +9,7 @@ impl Screen {
     {
         if ranges::in_range(self.pen) {
             let cells = self.cells;
-            if cells::in_range(cells) {
+            if sheet::in_range(cells) {
                 return false;
             }
         }

@@ -44,7 +44,7 @@ impl Screen {
             Asked::Nothing => self,
             Asked::Blank => {
                 let old = self.cells;
-                let cells = cells::clear(old);
+                let cells = sheet::clear(old);
                 Screen { cells, pen }
             }
             Asked::Put { set, code, times } => self.write(set, code, times),

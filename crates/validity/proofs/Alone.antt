@@ -13,10 +13,10 @@ use Rattle.division.specs.Division.{lowBits, bits}
 use Rattle.division.proofs.Bytes.{bits-append, bits-digits}
 use Rattle.division.proofs.Linear.{bits-sum}
 use Rattle.parity.specs.Parity.{ones}
+use Rattle.parity.proofs.Parities.{ones-sum, ones-append, even-ones}
 use Rattle.validity.specs.Block.{Valid}
 use Rattle.validity.specs.Changed.{flip}
 use Rattle.validity.specs.Units.{unit}
-use Rattle.parity.proofs.Parities.{ones-sum, ones-append, even-ones}
 use Rattle.validity.proofs.Flips.{flip-sum, flip-length}
 use Rattle.validity.proofs.Marks.{mark, mark-sum, mark-inj, unit-odd}
 use Rattle.validity.proofs.Validity.{valid-length, valid-even, valid-remainder, valid-last}

@@ -17,10 +17,10 @@ use Rattle.division.specs.Division.{lowBits}
 use Rattle.division.proofs.Bytes.{low-digits}
 use Rattle.division.proofs.Linear.{low-sum}
 use Rattle.parity.specs.Parity.{ones, even, allEven, odds}
+use Rattle.parity.proofs.Parities.{ones-sum}
 use Rattle.validity.specs.Block.{remainder, Valid}
 use Rattle.validity.specs.Changed.{flip}
 use Rattle.validity.specs.Units.{unit}
-use Rattle.parity.proofs.Parities.{ones-sum}
 use Rattle.validity.proofs.Powers.{remainder-sum}
 use Rattle.validity.proofs.Flips.{flip-sum, flip-length}
 use Rattle.validity.proofs.Validity.{valid-even, valid-remainder, valid-last, is-valid}

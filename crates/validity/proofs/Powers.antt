@@ -20,9 +20,9 @@ use Rattle.division.proofs.Bytes.{low-digits, append-digits, reverse-digits, bi
 use Rattle.division.proofs.Steps.{divide-append, divide-lt, zeros-behind}
 use Rattle.division.proofs.Linear.{divide-sum, low-sum, bits-sum, sum-reverse}
 use Rattle.division.proofs.Divides.{nothing-left}
+use Rattle.parity.proofs.Parities.{seven}
 use Rattle.validity.specs.Block.{codeBits, remainder}
 use Rattle.validity.specs.Units.{unit}
-use Rattle.parity.proofs.Parities.{seven}
 
 -- ---- the row of code bits
 

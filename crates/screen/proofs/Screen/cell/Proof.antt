@@ -8,7 +8,7 @@ use Rattle.laws.proofs.Lists.{getD-any, length-mapped}
 use Rattle.cursor.specs.Places.{at, On}
 use Rattle.cursor.proofs.Tested.{true-on}
 use Rattle.cells.specs.Characters.{blankOf}
-use Rattle.cells.proofs.Stays.{noCell}
+use Rattle.sheet.proofs.Stays.{noCell}
 use Rattle.screen.specs.Screens.{cellAt}
 use Rattle.screen.specs.Calls.{read}
 use Rattle.screen.proofs.Stays.{index-low}

@@ -1,4 +1,4 @@
--- What the tests of ranges say, and what stays in range. Assumes nothing.
+-- What the test of the thousand says, and what stays in range. Assumes nothing.
 use mathlib.Core.Path.{_≡_, refl}
 use mathlib.Core.Bool.{true, false}
 use mathlib.Core.List.{List, [], _∷_, _++_}
@@ -7,25 +7,18 @@ use lib.Dec.{leb, lit≤}
 use lib.ListN.{take, set, replicate}
 use borrow.Author.Tests.{leb-true, le-leb}
 use Rattle.laws.proofs.Computed.{each}
 use Rattle.cells.specs.declared.Cell.{Cell}
-use Rattle.cells.specs.Characters.{blankOf, cleared}
-use Rattle.cells.specs.Within.{goodCharacter, goodCell, allGood, Character, InCell, AllIn, none, also}
+use Rattle.cells.specs.Characters.{blankOf}
+use Rattle.cells.specs.Within.{goodCharacter, InCell}
+use Rattle.cells.proofs.Tested.{character-true, true-character}
+use Rattle.sheet.specs.Clearing.{cleared}
+use Rattle.sheet.specs.Within.{goodCell, allGood, AllIn, none, also}
 
 -- what would be read past the end of the cells
 abbrev pub noCell : Cell
 noCell = record { set = 0; code = 0; ink = 0; ground = 0; flash = false; inverse = false }
 
 -- ---- the tests are the ranges
-
-pub character-true : {s d : ℕ} → Character s d → goodCharacter s d ≡ true
-unfolding goodCharacter
-character-true h = simp (le-leb _ _ (h .set), le-leb _ _ (h .low), le-leb _ _ (h .high))
-
-pub true-character : (s d : ℕ) → goodCharacter s d ≡ true → Character s d
-unfolding goodCharacter
-true-character s d e =
-    let t = each (leb s 2 ∷ leb 32 d ∷ leb d 127 ∷ []) e in
-    record { set = leb-true _ _ (t .0); low = leb-true _ _ (t .1 .0); high = leb-true _ _ (t .1 .1) }
 
 cell-true : {c : Cell} → InCell c → goodCell c ≡ true
 cell-true h = simp (le-leb _ _ (h .ink), le-leb _ _ (h .ground), character-true (h .character))

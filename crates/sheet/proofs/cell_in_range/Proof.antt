@@ -1,8 +1,8 @@
--- `cells::Cell::in_range` meets its contract. Assumes nothing.
+-- `sheet::cell_in_range` meets its contract. Assumes nothing.
 use borrow.Author.Tests.{le-leb, lt-leb}
 use borrow.Author.Needs.{needs}
-use Rattle.cells.proofs.Cell.in_range.Statement.{statement}
-use Rattle.cells.proofs.Cell.in_range.Tie as tie
+use Rattle.sheet.proofs.cell_in_range.Statement.{statement}
+use Rattle.sheet.proofs.cell_in_range.Tie as tie
 
 returns : tie.Need-returns
 returns c = simp (lt-leb _ _ (c .if1 .taken))
@@ -21,5 +21,5 @@ returns-3 c =
       le-leb _ _ (c .before .before .before .if1 .left),
     )
 
-pub in-range-spec : {M : Type 1} → statement M
-in-range-spec = tie.close (tie.spec returns returns-2 is-character-requires returns-3)
+pub cell-in-range-spec : {M : Type 1} → statement M
+cell-in-range-spec = tie.close (tie.spec returns returns-2 is-character-requires returns-3)

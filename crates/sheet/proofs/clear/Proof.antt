@@ -1,4 +1,4 @@
--- `cells::clear` meets its contract: row 0 is copied over a thousand blank cells. Assumes nothing.
+-- `sheet::clear` meets its contract: row 0 is copied over a thousand blank cells. Assumes nothing.
 use mathlib.Core.Path.{_≡_, ap, _∙_}
 use mathlib.Core.List.{List, _++_}
 use Prim.Native.Nat.{ℕ, _-_, _≤_, _<_}
@@ -7,11 +7,12 @@ use lib.Dec.{lit≤}
 use lib.ListN.{length, getD, take, drop, set, replicate}
 use borrow.Author.Needs.{needs}
 use Rattle.laws.proofs.Lists.{put, length-mapped}
 use Rattle.cells.specs.declared.Cell.{Cell}
-use Rattle.cells.specs.Characters.{blankOf, cleared}
-use Rattle.cells.proofs.Stays.{noCell}
-use Rattle.cells.proofs.clear.Statement.{statement}
-use Rattle.cells.proofs.clear.Tie as tie
+use Rattle.cells.specs.Characters.{blankOf}
+use Rattle.sheet.specs.Clearing.{cleared}
+use Rattle.sheet.proofs.Stays.{noCell}
+use Rattle.sheet.proofs.clear.Statement.{statement}
+use Rattle.sheet.proofs.clear.Tie as tie
 
 abbrev Inv-loop : tie.InvT-loop
 Inv-loop old cells₀ i₀ cells i = (i ≤ 40) × (cells ≡ take i (old) ++ drop i (replicate 1000 blankOf))

@@ -1,4 +1,4 @@
--- `cells::in_range` meets its contract: the cells not tested yet decide as all of them do. Assumes
+-- `sheet::in_range` meets its contract: the cells not tested yet decide as all of them do. Assumes
 -- nothing.
 use mathlib.Core.Path.{_≡_, refl, sym, ap, _∙_}
 use mathlib.Core.Bool.{Bool, true, false, _&&_}
@@ -11,11 +11,11 @@ use lib.ListN.{length, drop, getD, drop-of-length-le}
 use lib.Seq.{drop-cons}
 use borrow.Author.Needs.{needs}
 use Rattle.laws.proofs.Lists.{length-mapped}
 use Rattle.cells.specs.declared.Cell.{Cell}
-use Rattle.cells.specs.Within.{goodCell, allGood}
-use Rattle.cells.proofs.Stays.{noCell}
-use Rattle.cells.proofs.in_range.Statement.{statement}
-use Rattle.cells.proofs.in_range.Tie as tie
+use Rattle.sheet.specs.Within.{goodCell, allGood}
+use Rattle.sheet.proofs.Stays.{noCell}
+use Rattle.sheet.proofs.in_range.Statement.{statement}
+use Rattle.sheet.proofs.in_range.Tie as tie
 
 next : (cs : List Cell) (i : ℕ) (t : Bool) → i < length cs → goodCell (getD cs i noCell) ≡ t
     → allGood (drop i cs) ≡ (t && allGood (drop (i + 1) cs))
@@ -37,8 +37,8 @@ mul-cell c = search needs
 array-copy-out-cell : tie.Need-array-copy-out-cell Inv-loop μ-loop
 array-copy-out-cell c = search needs
 
-in-range-requires : tie.Need-in-range-requires Inv-loop μ-loop
-in-range-requires c κs = search needs
+cell-in-range-requires : tie.Need-cell-in-range-requires Inv-loop μ-loop
+cell-in-range-requires c κs = search needs
 
 add-i : tie.Need-add-i Inv-loop μ-loop
 add-i c = search needs
@@ -53,7 +53,7 @@ loop-again c =
     let n : length cs ≡ 1000 = search (length-mapped, l .before .good .0) in
     let h : l .loop .i < length cs = omega arith in (
       search needs,
-      sym (next cs (l .loop .i) true h (sym (c .before .in-range .ensures) ∙ c .if1 .taken)) ∙ l .loop .inv .1,
+      sym (next cs (l .loop .i) true h (sym (c .before .cell-in-range .ensures) ∙ c .if1 .taken)) ∙ l .loop .inv .1,
     )
 
 returns : tie.Need-returns Inv-loop μ-loop
@@ -62,7 +62,7 @@ returns c =
     let cs = l .before .args .t1 in
     let n : length cs ≡ 1000 = search (length-mapped, l .before .good .0) in
     let h : l .loop .i < length cs = omega arith in
-    sym (next cs (l .loop .i) false h (sym (c .before .in-range .ensures) ∙ c .if1 .left)) ∙ l .loop .inv .1
+    sym (next cs (l .loop .i) false h (sym (c .before .cell-in-range .ensures) ∙ c .if1 .left)) ∙ l .loop .inv .1
 
 returns-2 : tie.Need-returns-2 Inv-loop μ-loop
 unfolding allGood
@@ -82,7 +82,7 @@ in-range-spec =
     loop-holds
     mul-cell
     array-copy-out-cell
-    in-range-requires
+    cell-in-range-requires
     add-i
     loop-less
     loop-again

@@ -5,8 +5,9 @@ use Prim.Native.Nat.{ℕ, _+_, _-_, _≤_, _<_}
 use native.Mathlib.Omega.{arith}
 use lib.ListN.{length, getD, take, replicate, getD-replicate, List·getD-append}
 use lib.Seq.{getD-append-add, getD-take, length-take-le}
 use Rattle.cells.specs.declared.Cell.{Cell}
-use Rattle.cells.specs.Characters.{blankOf, cleared}
+use Rattle.cells.specs.Characters.{blankOf}
+use Rattle.sheet.specs.Clearing.{cleared}
 
 module _ (cs : List Cell) (n : length cs ≡ 1000) (i : ℕ) (z : Cell) where
   forty : length (take 40 cs) ≡ 40
