@@ -43,11 +43,6 @@ enum GivenLast {
     There(Last),
 }
 
-enum GivenKept {
-    Nothing,
-    There(Kept),
-}
-
 enum GivenSequence {
     Nothing,
     There(Sequence),
@@ -69,21 +64,6 @@ pub(crate) fn are_cells(word: &[u8]) -> bool {
     true
 }
 
-// The cell that seven digits name.
-fn cell_of(seven: &[u8]) -> Cell {
-    if seven.len() < 7 {
-        return cells::blank();
-    }
-    Cell {
-        set: digit(seven[0]),
-        code: digit(seven[1]) % 16 * 16 + digit(seven[2]) % 16,
-        ink: digit(seven[3]),
-        ground: digit(seven[4]),
-        flash: digit(seven[5]) == 1,
-        inverse: digit(seven[6]) == 1,
-    }
-}
-
 // The cells that such a word names.
 pub(crate) fn cells_of(word: &[u8]) -> [Cell; 1000] {
     let blank = cells::blank();
@@ -91,10 +71,17 @@ pub(crate) fn cells_of(word: &[u8]) -> [Cell; 1000] {
     let mut i = 0;
     while i < 1000 {
         let at = 7 * i;
-        if at > word.len() {
+        if at + 6 >= word.len() {
             return cells;
         }
-        let cell = cell_of(&word[at..]);
+        let cell = Cell {
+            set: digit(word[at]),
+            code: digit(word[at + 1]) % 16 * 16 + digit(word[at + 2]) % 16,
+            ink: digit(word[at + 3]),
+            ground: digit(word[at + 4]),
+            flash: digit(word[at + 5]) == 1,
+            inverse: digit(word[at + 6]) == 1,
+        };
         cells[i] = cell;
         i += 1;
     }
@@ -163,42 +150,33 @@ fn attributes_of(
     }
 }
 
-fn place_of(row: usize, column: usize) -> Place {
-    Place {
-        row: (row % 256) as u8,
-        column: (column % 256) as u8,
-    }
-}
-
-// KEPT, from which the words go on.
-fn kept_of(words: &[u8]) -> GivenKept {
-    let mut n = [0usize; 8];
-    if numbers(words, &KEPT_ENDS, &KEPT_MOST, &mut n) == NONE {
-        return GivenKept::Nothing;
-    }
-    GivenKept::There(Kept {
-        place: place_of(n[0], n[1]),
-        attributes: attributes_of(n[2], n[3], n[4], n[5], n[6], n[7]),
-    })
-}
-
 // CUR ATTR LAST KEPT PEND.
 pub(crate) fn pen_of(words: &[u8]) -> Given {
     let mut n = [0usize; 9];
-    if numbers(words, &NOW_ENDS, &NOW_MOST, &mut n) == NONE {
+    let mut k = [0usize; 8];
+    if numbers(words, &NOW_ENDS, &NOW_MOST, &mut n) == NONE
+        || numbers(after(words, 3), &KEPT_ENDS, &KEPT_MOST, &mut k) == NONE
+    {
         return Given::Nothing;
     }
     let GivenLast::There(last) = last_of(word(words, 2)) else {
         return Given::Nothing;
     };
-    let GivenKept::There(kept) = kept_of(after(words, 3)) else {
-        return Given::Nothing;
-    };
     let GivenSequence::There(sequence) = sequence_of(after(words, 4)) else {
         return Given::Nothing;
     };
+    let kept = Kept {
+        place: Place {
+            row: (k[0] % 256) as u8,
+            column: (k[1] % 256) as u8,
+        },
+        attributes: attributes_of(k[2], k[3], k[4], k[5], k[6], k[7]),
+    };
     Given::There(Pen {
-        place: place_of(n[0], n[1]),
+        place: Place {
+            row: (n[0] % 256) as u8,
+            column: (n[1] % 256) as u8,
+        },
         attributes: attributes_of(n[3], n[4], n[5], n[6], n[7], n[8]),
         kept,
         last,

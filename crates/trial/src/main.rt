@@ -21,41 +21,60 @@ mod words;
 
 use lines::At;
 use lines::LONGEST;
+use parts::first;
 use receiver::Receiver;
 use screen::Screen;
+use words::NONE;
+use words::after;
+use words::place_among;
+use words::word;
 
-// Runs one script to its end, or until an answer cannot be written. `name` is for error lines.
+// Runs one script to its end, or until an answer cannot be written. `name` is for error lines. An empty line and a
+// remark get no answer, and a line that is too long is no command.
 fn run(fd: i32, name: &[u8]) {
-    let mut line = [0u8; LONGEST];
-    let mut at = At {
-        length: 0,
-        number: 1,
-        stopped: false,
-        receiver: Receiver::new(),
-        screen: Screen::fresh(),
-    };
     let mut portion = io::large_buffer();
-    let mut turns = u64::MAX;
-    while turns > 0 {
-        let got = libc::read(fd, &mut portion);
-        if got < 0 {
+    let mut line = [0u8; LONGEST];
+    let mut receiver = Receiver::new();
+    let mut screen = Screen::fresh();
+    let mut at = At {
+        from: 0,
+        to: 0,
+        length: 0,
+        ended: false,
+        failed: false,
+    };
+    let mut number = 1;
+    while number < u64::MAX && !at.ended {
+        at = lines::cut(fd, at, &mut portion, &mut line);
+        if at.failed {
             os::fail(name);
             return;
         }
-        if got == 0 {
-            at = lines::end(at, &line);
-            if at.stopped {
-                os::fail(b"standard output");
+        if at.length > 0 && line[0] != b'#' {
+            let command = first(&line, at.length);
+            let words = after(command, 1);
+            let mut known = at.length <= LONGEST;
+            let mut family = NONE;
+            if known {
+                family = place_among(word(command, 0), b"make judge rx scr");
             }
-            return;
+            match family {
+                0 => known = blocks::make(words),
+                1 => known = blocks::judge(words),
+                2 => receiver = receiving::obey(words, receiver, &mut known),
+                3 => screen = screening::obey(words, screen, &mut known),
+                _ => known = false,
+            }
+            if !known {
+                io::write_all(1, b"? ");
+                io::print_decimal(1, number);
+            }
+            if !io::write_all(1, b"\n") {
+                os::fail(b"standard output");
+                return;
+            }
         }
-        let n = io::count(got, &portion);
-        at = lines::feed(at, &portion[..n], &mut line);
-        if at.stopped {
-            os::fail(b"standard output");
-            return;
-        }
-        turns -= 1;
+        number += 1;
     }
 }
 

@@ -13,36 +13,64 @@ use receiver::Phase;
 use receiver::Receiver;
 use receiver::Stepped;
 
-// Whether a line was a command of this family, and the receiver after it.
-pub(crate) struct Obeyed {
-    pub(crate) known: bool,
-    pub(crate) receiver: Receiver,
-}
-
-// Answers a command of this family, from its second word on and up to the end of the line, or says that it is none.
-pub(crate) fn obey(command: &[u8], now: Receiver) -> Obeyed {
-    match place_among(command, b"new on off ask") {
-        0 => put(Receiver::new()),
-        1 => answer(now.switch_on()),
-        2 => answer(now.switch_off()),
-        3 => answer(now.ask_again()),
-        _ => obey_words(word(command, 0), after(command, 1), now),
+// Answers a command of this family, from its second word on and up to the end of the line: the receiver after it. Words
+// that are no command leave it as it is, and are not `known`.
+pub(crate) fn obey(words: &[u8], now: Receiver, known: &mut bool) -> Receiver {
+    match place_among(words, b"on off ask") {
+        0 => answer(now.switch_on()),
+        1 => answer(now.switch_off()),
+        2 => answer(now.ask_again()),
+        _ => {
+            let mut byte = [0u8; 1];
+            if is(word(words, 0), b"byte") && bytes_of(after(words, 1), &mut byte) == 1 {
+                return answer(now.step(byte[0]));
+            }
+            let next = named(words, now, known);
+            if *known {
+                io::write_all(1, b"0 passed=- modem=-");
+                write_state(next);
+            }
+            next
+        }
     }
 }
 
-// The commands with arguments.
-fn obey_words(name: &[u8], words: &[u8], now: Receiver) -> Obeyed {
-    if is(name, b"set") {
-        return set(words, now);
+// What a call handed back.
+fn answer(done: Stepped) -> Receiver {
+    let next = done.next;
+    let values = done.values;
+    let request = done.request;
+    io::print_decimal(1, done.answer as u64);
+    write_bytes(b" passed=", first(&values, done.passed));
+    write_bytes(b" modem=", first(&request, done.asked));
+    write_state(next);
+    next
+}
+
+// The state that `new` or `set PHASE NUMBER COUNT SEEN HELD` names, in range or not. SEEN is part of it in waiting alone.
+fn named(words: &[u8], now: Receiver, known: &mut bool) -> Receiver {
+    if is(words, b"new") {
+        return Receiver::new();
     }
-    let mut byte = [0u8; 1];
-    if is(name, b"byte") && bytes_of(words, &mut byte) == 1 {
-        return answer(now.step(byte[0]));
+    let given = after(words, 1);
+    let mut n = [0usize; 4];
+    let mut held = [0u8; 17];
+    let at = numbers(given, b"    ", &[2, 255, 255, 255], &mut n);
+    if is(word(words, 0), b"set") && at <= given.len() && bytes_of(&given[at..], &mut held) == 17 {
+        let phase = match n[0] {
+            0 => Phase::Off,
+            1 => Phase::Collecting,
+            _ => Phase::Waiting((n[3] % 256) as u8),
+        };
+        return Receiver {
+            held,
+            count: n[2],
+            number: (n[1] % 256) as u8,
+            phase,
+        };
     }
-    Obeyed {
-        known: false,
-        receiver: now,
-    }
+    *known = false;
+    now
 }
 
 // The state as answers have it. A broken one may count more bytes than there are; then all of them are shown.
@@ -68,58 +96,4 @@ fn write_state(r: Receiver) {
     io::print_decimal(1, seen as u64);
     let held = r.held;
     write_bytes(b",", first(&held, r.count));
-}
-
-// What a call handed back.
-fn answer(done: Stepped) -> Obeyed {
-    let next = done.next;
-    let values = done.values;
-    let request = done.request;
-    io::print_decimal(1, done.answer as u64);
-    write_bytes(b" passed=", first(&values, done.passed));
-    write_bytes(b" modem=", first(&request, done.asked));
-    write_state(next);
-    Obeyed {
-        known: true,
-        receiver: next,
-    }
-}
-
-// A state that no call made: nothing goes out.
-fn put(state: Receiver) -> Obeyed {
-    io::write_all(1, b"0 passed=- modem=-");
-    write_state(state);
-    Obeyed {
-        known: true,
-        receiver: state,
-    }
-}
-
-// The state that `rx set` names, in range or not; its phase is 0, 1 or 2. SEEN is part of it in waiting alone.
-fn state(phase: usize, number: usize, count: usize, seen: usize, held: [u8; 17]) -> Receiver {
-    let named = match phase {
-        0 => Phase::Off,
-        1 => Phase::Collecting,
-        _ => Phase::Waiting((seen % 256) as u8),
-    };
-    Receiver {
-        held: held,
-        count: count,
-        number: (number % 256) as u8,
-        phase: named,
-    }
-}
-
-// `rx set PHASE NUMBER COUNT SEEN HELD`, from its phase on.
-fn set(words: &[u8], now: Receiver) -> Obeyed {
-    let mut given = [0usize; 4];
-    let mut held = [0u8; 17];
-    let at = numbers(words, b"    ", &[2, 255, 255, 255], &mut given);
-    if at <= words.len() && bytes_of(&words[at..], &mut held) == 17 {
-        return put(state(given[0], given[1], given[2], given[3], held));
-    }
-    Obeyed {
-        known: false,
-        receiver: now,
-    }
 }

@@ -14,7 +14,7 @@ use sequences::Sequence;
 pub(crate) const SEQUENCES: [u8; 29] = *b"- esc esc2 csi us rep ss2 sep";
 
 // The seven digits of a cell.
-fn spelled(cell: Cell) -> [u8; 7] {
+pub(crate) fn spelled(cell: Cell) -> [u8; 7] {
     [
         DIGITS[(cell.set % 16) as usize],
         DIGITS[(cell.code / 16 % 16) as usize],
@@ -24,11 +24,6 @@ fn spelled(cell: Cell) -> [u8; 7] {
         DIGITS[(cell.flash as u8 % 16) as usize],
         DIGITS[(cell.inverse as u8 % 16) as usize],
     ]
-}
-
-pub(crate) fn write_cell(cell: Cell) {
-    let text = spelled(cell);
-    io::write_all(1, &text);
 }
 
 // All the cells, with nothing between them.
@@ -72,18 +67,6 @@ fn write_attributes(before: &[u8], a: Attributes) {
     write_list(b",", &[a.flash as u8, a.inverse as u8]);
 }
 
-fn write_last(last: Last) {
-    match last {
-        Last::Never => {
-            io::write_all(1, b" last=-");
-        }
-        Last::Character { set, code } => {
-            write_list(b" last=", &[set]);
-            write_bytes(b":", &[code]);
-        }
-    }
-}
-
 fn write_sequence(sequence: Sequence) {
     let place = match sequence {
         Sequence::Free => 0,
@@ -112,7 +95,15 @@ pub(crate) fn write_pen(pen: Pen) {
     let sequence = pen.sequence;
     write_list(b" cur=", &[place.row, place.column, pen.shown as u8]);
     write_attributes(b" attr=", pen.attributes);
-    write_last(last);
+    match last {
+        Last::Never => {
+            io::write_all(1, b" last=-");
+        }
+        Last::Character { set, code } => {
+            write_list(b" last=", &[set]);
+            write_bytes(b":", &[code]);
+        }
+    }
     write_list(b" kept=", &[old.row, old.column]);
     write_attributes(b",", kept.attributes);
     write_sequence(sequence);

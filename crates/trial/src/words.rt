@@ -62,8 +62,15 @@ pub(crate) fn bytes(word: &[u8], out: &mut [u8]) -> usize {
     n
 }
 
-// The decimal number that a word names, or NONE where it names none, or one above 255: the format has no larger.
+// What stands for `-` among numbers.
+pub(crate) const DASH: usize = 256;
+
+// The decimal number that a word names, DASH where it is `-`, or NONE where it names none, or one above 255: the format
+// has no larger. Where `-` is no number either, the test for the largest one refuses it.
 pub(crate) fn decimal(word: &[u8]) -> usize {
+    if is(word, b"-") {
+        return DASH;
+    }
     if word.len() == 0 {
         return NONE;
     }
@@ -86,17 +93,6 @@ pub(crate) fn decimal(word: &[u8]) -> usize {
     number
 }
 
-// What stands for `-` among numbers.
-pub(crate) const DASH: usize = 256;
-
-// The number that a word names, or DASH where it is `-`.
-fn decimal_or_dash(word: &[u8]) -> usize {
-    if is(word, b"-") {
-        return DASH;
-    }
-    decimal(word)
-}
-
 // Puts the numbers that words name in `out`: each is at most its `most`, where `-` counts as DASH, and goes up to the
 // character that is its end, or to the end of the words. Where the rest begins, or NONE where one of them is no such
 // number.
@@ -109,7 +105,7 @@ pub(crate) fn numbers(words: &[u8], ends: &[u8], most: &[usize], out: &mut [usiz
             return NONE;
         }
         let e = find(words, at, n, ends[i]);
-        let number = decimal_or_dash(&words[at..e]);
+        let number = decimal(&words[at..e]);
         if number > most[i] {
             return NONE;
         }

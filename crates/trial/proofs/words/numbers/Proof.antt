@@ -27,17 +27,17 @@ shared-slice-read-find c = search needs
 find-requires : tie.Need-find-requires Inv-loop μ-loop
 find-requires c κs = search needs
 
-sub-decimal-or-dash : tie.Need-sub-decimal-or-dash Inv-loop μ-loop
-sub-decimal-or-dash c = search needs
+sub-decimal : tie.Need-sub-decimal Inv-loop μ-loop
+sub-decimal c = search needs
 
-part-decimal-or-dash-start : tie.Need-part-decimal-or-dash-start Inv-loop μ-loop
-part-decimal-or-dash-start c = search needs
+part-decimal-start : tie.Need-part-decimal-start Inv-loop μ-loop
+part-decimal-start c = search needs
 
-part-decimal-or-dash-end : tie.Need-part-decimal-or-dash-end Inv-loop μ-loop
-part-decimal-or-dash-end c = search needs
+part-decimal-end : tie.Need-part-decimal-end Inv-loop μ-loop
+part-decimal-end c = search needs
 
-decimal-or-dash-requires : tie.Need-decimal-or-dash-requires Inv-loop μ-loop
-decimal-or-dash-requires c κs = search needs
+decimal-requires : tie.Need-decimal-requires Inv-loop μ-loop
+decimal-requires c κs = search needs
 
 mul-if4 : tie.Need-mul-if4 Inv-loop μ-loop
 mul-if4 c = search needs
@@ -98,10 +98,10 @@ numbers-spec =
     returns
     shared-slice-read-find
     find-requires
-    sub-decimal-or-dash
-    part-decimal-or-dash-start
-    part-decimal-or-dash-end
-    decimal-or-dash-requires
+    sub-decimal
+    part-decimal-start
+    part-decimal-end
+    decimal-requires
     mul-if4
     shared-slice-read-if4
     same-length-2
