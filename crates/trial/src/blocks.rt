@@ -5,22 +5,16 @@ use crate::parts::first;
 use crate::words::MOST;
 use crate::words::after;
 use crate::words::bytes as bytes_of;
-use crate::words::decimal;
-use crate::words::word;
+use crate::words::number;
+use crate::words::part;
 use crate::words::write_bytes;
 use maker::Made;
 
-// `make VALUES ROOM`: NUMBER PLACE OUTPUT. The output's bytes are ee before the call, so that untouched ones show.
-pub(crate) fn make(words: &[u8]) -> bool {
-    let mut given = [0u8; MOST];
-    let count = bytes_of(word(words, 0), &mut given);
-    let room = decimal(after(words, 1));
-    if count > MOST || room > MOST {
-        return false;
-    }
-    let mut lent = [0xeeu8; MOST];
-    let output = &mut lent[0..room];
-    let made = block::make(&given[0..count], output);
+// What is lent has room to spare: the prover spells an array of up to 64 elements out, one by one.
+const LENT: usize = 2 * MOST;
+
+// What the maker answered: its number, and the place of a value too large.
+fn write_made(made: Made) {
     match made {
         Made::Taken => {
             io::write_all(1, b"0 -");
@@ -36,25 +30,29 @@ pub(crate) fn make(words: &[u8]) -> bool {
             io::write_all(1, b"4 -");
         }
     }
+}
+
+// `make VALUES ROOM`: NUMBER PLACE OUTPUT. The output's bytes are ee before the call, so that untouched ones show.
+pub(crate) fn make(words: &[u8]) -> bool {
+    let mut good = true;
+    let mut given = [0u8; LENT];
+    let count = bytes_of(part(words, b' ', 0), &mut given);
+    let room = number(after(words, b' ', 1), 64, &mut good) as usize;
+    if count > MOST || !good {
+        return false;
+    }
+    if room > MOST {
+        return false;
+    }
+    let mut lent = [0xeeu8; LENT];
+    let output = &mut lent[0..room];
+    write_made(block::make(&given[0..count], output));
     write_bytes(b" ", output);
     true
 }
 
-// `judge BLOCK`: NUMBER VERDICT BLOCK PART. A block that was taken is mended where a bit is named. The part lies in the
-// lent block, so it is copied while it lives, and the block itself is read once it is back. `said` begins as no number
-// of the paper, so that one left unsaid shows.
-pub(crate) fn judge(word: &[u8]) -> bool {
-    let mut lent = [0u8; MOST];
-    let n = bytes_of(word, &mut lent);
-    if n > MOST {
-        return false;
-    }
-    let mut said: u8 = 255;
-    let mut bit: u8 = 0;
-    let mut kept = [0u8; MOST];
-    let block = &mut lent[0..n];
-    let part = block::judge(block, &mut said, &mut bit);
-    let k = append(part, &mut kept, 0);
+// The reader's number and verdict. A block that was taken is mended where a bit is named.
+fn write_verdict(said: u8, bit: u8) {
     if said == 0 && bit == 255 {
         io::write_all(1, b"0 clean");
     } else if said == 0 {
@@ -65,6 +63,23 @@ pub(crate) fn judge(word: &[u8]) -> bool {
         io::print_decimal(1, said as u64);
         io::write_all(1, b" -");
     }
+}
+
+// `judge BLOCK`: NUMBER VERDICT BLOCK PART. The part lies in the lent block, so it is copied while it lives, and the
+// block itself is read once it is back. `said` begins as no number of the paper, so that one left unsaid shows.
+pub(crate) fn judge(word: &[u8]) -> bool {
+    let mut lent = [0u8; LENT];
+    let n = bytes_of(word, &mut lent);
+    if n > MOST {
+        return false;
+    }
+    let mut said: u8 = 255;
+    let mut bit: u8 = 0;
+    let mut kept = [0u8; LENT];
+    let block = &mut lent[0..n];
+    let part = block::judge(block, &mut said, &mut bit);
+    let k = append(part, &mut kept, 0);
+    write_verdict(said, bit);
     write_bytes(b" ", block);
     write_bytes(b" ", first(&kept, k));
     true

@@ -26,11 +26,39 @@ use receiver::Receiver;
 use screen::Screen;
 use words::NONE;
 use words::after;
+use words::part;
 use words::place_among;
-use words::word;
 
-// Runs one script to its end, or until an answer cannot be written. `name` is for error lines. An empty line and a
-// remark get no answer, and a line that is too long is no command.
+// Whether a line gets an answer: an empty one and a remark do not, however long.
+fn is_answered(line: &[u8], length: usize) -> bool {
+    if length > 0 && line.len() > 0 {
+        return line[0] != b'#';
+    }
+    false
+}
+
+// Which family's command a line is, by its first word; a line that is too long is no command.
+fn family(line: &[u8], length: usize) -> usize {
+    if length > line.len() {
+        return NONE;
+    }
+    place_among(part(first(line, length), b' ', 0), b"make judge rx scr")
+}
+
+// Ends the answer to a line, which is `? NUMBER` where it is no command; false where it could not be written.
+fn end(known: bool, number: u64) -> bool {
+    if !known {
+        io::write_all(1, b"? ");
+        io::print_decimal(1, number);
+    }
+    if io::write_all(1, b"\n") {
+        return true;
+    }
+    os::fail(b"standard output");
+    false
+}
+
+// Runs one script to its end, or until an answer cannot be written. `name` is for error lines.
 fn run(fd: i32, name: &[u8]) {
     let mut portion = io::large_buffer();
     let mut line = [0u8; LONGEST];
@@ -50,27 +78,17 @@ fn run(fd: i32, name: &[u8]) {
             os::fail(name);
             return;
         }
-        if at.length > 0 && line[0] != b'#' {
-            let command = first(&line, at.length);
-            let words = after(command, 1);
-            let mut known = at.length <= LONGEST;
-            let mut family = NONE;
-            if known {
-                family = place_among(word(command, 0), b"make judge rx scr");
-            }
-            match family {
+        if is_answered(&line, at.length) {
+            let words = after(first(&line, at.length), b' ', 1);
+            let mut known = true;
+            match family(&line, at.length) {
                 0 => known = blocks::make(words),
                 1 => known = blocks::judge(words),
                 2 => receiver = receiving::obey(words, receiver, &mut known),
                 3 => screen = screening::obey(words, screen, &mut known),
                 _ => known = false,
             }
-            if !known {
-                io::write_all(1, b"? ");
-                io::print_decimal(1, number);
-            }
-            if !io::write_all(1, b"\n") {
-                os::fail(b"standard output");
+            if !end(known, number) {
                 return;
             }
         }

@@ -2,7 +2,6 @@
 // `scr load CELLS CUR ATTR LAST KEPT PEND`. loading.rt reads the words of a state, and showing.rt writes them.
 //
 // A screen is large, so the words are read first, without it, and one function alone then acts on it.
-use crate::loading::Given;
 use crate::loading::are_cells;
 use crate::loading::cells_of;
 use crate::loading::pen_of;
@@ -11,10 +10,12 @@ use crate::showing::spelled;
 use crate::showing::write_cells;
 use crate::showing::write_pen;
 use crate::words::after;
+use crate::words::byte;
 use crate::words::bytes as bytes_of;
-use crate::words::decimal;
+use crate::words::is;
+use crate::words::number;
+use crate::words::part;
 use crate::words::place_among;
-use crate::words::word;
 use pen::Pen;
 use screen::Answer;
 use screen::Read;
@@ -26,7 +27,7 @@ const LONGEST_RUN: usize = 4000;
 // What words ask of the screen.
 enum Wish {
     // They are no command.
-    Unknown,
+    Nothing,
     Fresh,
     Dump,
     Byte(u8),
@@ -38,57 +39,49 @@ enum Wish {
 }
 
 // Reads a command, from its second word on; the values of a run go to `values`.
-fn wish_of(words: &[u8], values: &mut [u8]) -> Wish {
-    match place_among(words, b"fresh dump") {
-        0 => return Wish::Fresh,
-        1 => return Wish::Dump,
-        _ => {}
-    }
-    let given = after(words, 1);
-    match place_among(word(words, 0), b"byte run cell load") {
+fn wish_of(words: &[u8], values: &mut [u8], known: &mut bool) -> Wish {
+    let given = after(words, b' ', 1);
+    match place_among(part(words, b' ', 0), b"fresh dump byte run cell load") {
         0 => {
-            let mut value = [0u8; 1];
-            if bytes_of(given, &mut value) == 1 {
-                return Wish::Byte(value[0]);
-            }
+            *known = is(words, b"fresh");
+            Wish::Fresh
         }
         1 => {
-            let n = bytes_of(given, values);
-            if n <= values.len() {
-                return Wish::Run(n);
-            }
+            *known = is(words, b"dump");
+            Wish::Dump
         }
-        2 => {
-            let row = decimal(word(given, 0));
-            let column = decimal(after(given, 1));
-            if row < 256 && column < 256 {
-                return Wish::Cell {
-                    row: row as u8,
-                    column: column as u8,
-                };
-            }
-        }
+        2 => Wish::Byte(byte(given, known)),
         3 => {
-            if are_cells(word(given, 0)) {
-                if let Given::There(pen) = pen_of(after(given, 1)) {
-                    return Wish::Load(pen);
-                }
-            }
+            let n = bytes_of(given, values);
+            *known = n <= values.len();
+            return Wish::Run(n);
         }
-        _ => {}
+        4 => Wish::Cell {
+            row: number(part(given, b' ', 0), 255, known),
+            column: number(after(given, b' ', 1), 255, known),
+        },
+        5 => {
+            *known = are_cells(part(given, b' ', 0));
+            Wish::Load(pen_of(after(given, b' ', 1), known))
+        }
+        _ => {
+            *known = false;
+            Wish::Nothing
+        }
     }
-    Wish::Unknown
 }
 
 // Answers a command of this family, from its second word on and up to the end of the line: the screen after it. Words
 // that are no command leave it as it is, and are not `known`.
 pub(crate) fn obey(words: &[u8], now: Screen, known: &mut bool) -> Screen {
     let mut values = [0u8; LONGEST_RUN];
-    let wish = wish_of(words, &mut values);
+    let wish = wish_of(words, &mut values, known);
+    if !*known {
+        return now;
+    }
     let mut next = now;
     match wish {
-        Wish::Unknown => {
-            *known = false;
+        Wish::Nothing => {
             return now;
         }
         Wish::Dump => {
@@ -106,7 +99,7 @@ pub(crate) fn obey(words: &[u8], now: Screen, known: &mut bool) -> Screen {
         }
         Wish::Load(pen) => {
             next = Screen {
-                cells: cells_of(word(words, 1)),
+                cells: cells_of(part(words, b' ', 1)),
                 pen,
             };
             write_answer(Answer::Taken, false);

@@ -1,8 +1,11 @@
-// The bytes and numbers that words name, and bytes as a word.
+// The parts of a text, the bytes and numbers that its words name, and bytes and numbers as words.
+//
+// Whoever has a word read lends `good`, which a word that names nothing of its kind makes false. So several words are
+// read one after the other, and asked for once.
 use crate::parts::first;
 use bytes::scan::find;
 
-// As many bytes as a word may name.
+// As many bytes as a word of a block command may name, and any word of an answer but for all the cells.
 pub(crate) const MOST: usize = 64;
 
 // What is answered where a word names nothing: above every count and number, so that whoever tests for a largest one
@@ -22,6 +25,42 @@ pub(crate) fn is(word: &[u8], name: &[u8]) -> bool {
         i += 1;
     }
     true
+}
+
+// What stands after so many marks; nothing where there are fewer.
+pub(crate) fn after(text: &[u8], mark: u8, marks: usize) -> &[u8] {
+    let n = text.len();
+    let mut at = 0;
+    let mut i = 0;
+    while i < marks {
+        let e = find(text, at, n, mark);
+        if e == n {
+            return &text[n..];
+        }
+        at = e + 1;
+        i += 1;
+    }
+    &text[at..]
+}
+
+// The part after so many marks, up to the next.
+pub(crate) fn part(text: &[u8], mark: u8, marks: usize) -> &[u8] {
+    let rest = after(text, mark, marks);
+    let n = rest.len();
+    let e = find(rest, 0, n, mark);
+    first(rest, e)
+}
+
+// How many words stand before a name among names; as many as there are, or more, where it is none of them.
+pub(crate) fn place_among(name: &[u8], names: &[u8]) -> usize {
+    let mut i = 0;
+    while i < names.len() {
+        if is(name, part(names, b' ', i)) {
+            return i;
+        }
+        i += 1;
+    }
+    NONE
 }
 
 // What a lower-case hex digit is worth; 16 for any other character.
@@ -62,15 +101,17 @@ pub(crate) fn bytes(word: &[u8], out: &mut [u8]) -> usize {
     n
 }
 
-// What stands for `-` among numbers.
-pub(crate) const DASH: usize = 256;
-
-// The decimal number that a word names, DASH where it is `-`, or NONE where it names none, or one above 255: the format
-// has no larger. Where `-` is no number either, the test for the largest one refuses it.
-pub(crate) fn decimal(word: &[u8]) -> usize {
-    if is(word, b"-") {
-        return DASH;
+// The one byte that a word names.
+pub(crate) fn byte(word: &[u8], good: &mut bool) -> u8 {
+    let mut one = [0u8; 1];
+    if bytes(word, &mut one) != 1 {
+        *good = false;
     }
+    one[0]
+}
+
+// The decimal number that a word names, or NONE where it names none, or one above 255: the format has no larger.
+fn decimal(word: &[u8]) -> usize {
     if word.len() == 0 {
         return NONE;
     }
@@ -93,66 +134,23 @@ pub(crate) fn decimal(word: &[u8]) -> usize {
     number
 }
 
-// Puts the numbers that words name in `out`: each is at most its `most`, where `-` counts as DASH, and goes up to the
-// character that is its end, or to the end of the words. Where the rest begins, or NONE where one of them is no such
-// number.
-pub(crate) fn numbers(words: &[u8], ends: &[u8], most: &[usize], out: &mut [usize]) -> usize {
-    let n = words.len();
-    let mut at = 0;
-    let mut i = 0;
-    while i < most.len() && i < ends.len() && i < out.len() {
-        if at > n {
-            return NONE;
-        }
-        let e = find(words, at, n, ends[i]);
-        let number = decimal(&words[at..e]);
-        if number > most[i] {
-            return NONE;
-        }
-        out[i] = number;
-        at = e + 1;
-        i += 1;
+// The same where it is at most `most`.
+pub(crate) fn number(word: &[u8], most: u8, good: &mut bool) -> u8 {
+    let n = decimal(word);
+    if n > most as usize {
+        *good = false;
+        return 0;
     }
-    at
+    n as u8
 }
 
-// What stands after so many spaces; nothing where there are fewer.
-pub(crate) fn after(words: &[u8], spaces: usize) -> &[u8] {
-    let n = words.len();
-    let mut at = 0;
-    let mut i = 0;
-    while i < spaces {
-        let e = find(words, at, n, b' ');
-        if e == n {
-            return &words[n..];
-        }
-        at = e + 1;
-        i += 1;
+// The lower-case hex digit that is worth so much.
+pub(crate) fn letter(worth: u8) -> u8 {
+    if worth < 10 {
+        return b'0' + worth;
     }
-    &words[at..]
+    b'a' - 10 + worth % 16
 }
-
-// The word after so many spaces.
-pub(crate) fn word(words: &[u8], spaces: usize) -> &[u8] {
-    let rest = after(words, spaces);
-    let n = rest.len();
-    let e = find(rest, 0, n, b' ');
-    first(rest, e)
-}
-
-// How many words stand before a name among names; as many as there are, or more, where it is none of them.
-pub(crate) fn place_among(name: &[u8], names: &[u8]) -> usize {
-    let mut i = 0;
-    while i < names.len() {
-        if is(name, word(names, i)) {
-            return i;
-        }
-        i += 1;
-    }
-    NONE
-}
-
-pub(crate) const DIGITS: [u8; 16] = *b"0123456789abcdef";
 
 // Writes what stands before them, and bytes as a word, `-` for none; no answer has a word of more than MOST.
 pub(crate) fn write_bytes(before: &[u8], bytes: &[u8]) {
@@ -167,10 +165,17 @@ pub(crate) fn write_bytes(before: &[u8], bytes: &[u8]) {
     let mut text = [0u8; 2 * MOST];
     let mut i = 0;
     while i < bytes.len() {
+        let byte = bytes[i];
         let at = 2 * i;
-        text[at] = DIGITS[(bytes[i] / 16 % 16) as usize];
-        text[at + 1] = DIGITS[(bytes[i] % 16) as usize];
+        text[at] = letter(byte / 16);
+        text[at + 1] = letter(byte % 16);
         i += 1;
     }
     io::write_all(1, first(&text, 2 * i));
+}
+
+// Writes a mark and a number after it.
+pub(crate) fn write_number(mark: u8, n: u8) {
+    io::write_all(1, &[mark]);
+    io::print_decimal(1, n as u64);
 }

@@ -7,10 +7,10 @@ use Rattle.trial.proofs.run.Statement.{statement}
 use Rattle.trial.proofs.run.Tie as tie
 
 abbrev Inv-loop : tie.InvT-loop
-Inv-loop fd name portion₀ line₀ receiver₀ screen₀ at₀ number₀ t13 t14 t15 t16 portion line receiver screen at number = (length portion ≡ 65536) × (length line ≡ 9000)
+Inv-loop fd name portion₀ line₀ receiver₀ screen₀ at₀ number₀ portion line receiver screen at number = (length portion ≡ 65536) × (length line ≡ 9000)
 
 abbrev μ-loop : tie.MeasureT-loop
-μ-loop fd name portion₀ line₀ receiver₀ screen₀ at₀ number₀ t13 t14 t15 t16 portion line receiver screen at number = 18446744073709551615 - number
+μ-loop fd name portion₀ line₀ receiver₀ screen₀ at₀ number₀ portion line receiver screen at number = 18446744073709551615 - number
 
 large-buffer-requires : tie.Need-large-buffer-requires Inv-loop μ-loop
 large-buffer-requires c κs = search needs
@@ -39,8 +39,11 @@ fail-requires c κs = search needs
 returns : tie.Need-returns Inv-loop μ-loop
 returns c = search needs
 
-array-read-if4 : tie.Need-array-read-if4 Inv-loop μ-loop
-array-read-if4 c = search needs
+slice-aggregate-is-answered : tie.Need-slice-aggregate-is-answered Inv-loop μ-loop
+slice-aggregate-is-answered c = search needs
+
+is-answered-requires : tie.Need-is-answered-requires Inv-loop μ-loop
+is-answered-requires c κs = search needs
 
 slice-aggregate-first : tie.Need-slice-aggregate-first Inv-loop μ-loop
 slice-aggregate-first c = search needs
@@ -51,14 +54,11 @@ first-requires c κs = search needs
 after-requires : tie.Need-after-requires Inv-loop μ-loop
 after-requires c κs = search needs
 
-word-requires : tie.Need-word-requires Inv-loop μ-loop
-word-requires c κs = search needs
+slice-aggregate-family : tie.Need-slice-aggregate-family Inv-loop μ-loop
+slice-aggregate-family c = search needs
 
-slice-aggregate-place-among : tie.Need-slice-aggregate-place-among Inv-loop μ-loop
-slice-aggregate-place-among c = search needs
-
-place-among-requires : tie.Need-place-among-requires Inv-loop μ-loop
-place-among-requires c κs = search needs
+family-requires : tie.Need-family-requires Inv-loop μ-loop
+family-requires c κs = search needs
 
 make-requires : tie.Need-make-requires Inv-loop μ-loop
 make-requires c κs = search needs
@@ -72,26 +72,8 @@ obey-requires c κs = search needs
 obey-requires-2 : tie.Need-obey-requires-2 Inv-loop μ-loop
 obey-requires-2 c κs = search needs
 
-slice-aggregate-write-all : tie.Need-slice-aggregate-write-all Inv-loop μ-loop
-slice-aggregate-write-all c = search needs
-
-write-all-requires : tie.Need-write-all-requires Inv-loop μ-loop
-write-all-requires c κs = search needs
-
-print-decimal-requires : tie.Need-print-decimal-requires Inv-loop μ-loop
-print-decimal-requires c κs = search needs
-
-slice-aggregate-write-all-2 : tie.Need-slice-aggregate-write-all-2 Inv-loop μ-loop
-slice-aggregate-write-all-2 c = search needs
-
-write-all-requires-2 : tie.Need-write-all-requires-2 Inv-loop μ-loop
-write-all-requires-2 c κs = search needs
-
-slice-aggregate-fail : tie.Need-slice-aggregate-fail Inv-loop μ-loop
-slice-aggregate-fail c = search needs
-
-fail-requires-2 : tie.Need-fail-requires-2 Inv-loop μ-loop
-fail-requires-2 c κs = search needs
+end-requires : tie.Need-end-requires Inv-loop μ-loop
+end-requires c κs = search needs
 
 returns-2 : tie.Need-returns-2 Inv-loop μ-loop
 returns-2 c = search needs
@@ -126,24 +108,18 @@ run-spec =
     cut-requires
     fail-requires
     returns
-    array-read-if4
+    slice-aggregate-is-answered
+    is-answered-requires
     slice-aggregate-first
     first-requires
     after-requires
-    word-requires
-    slice-aggregate-place-among
-    place-among-requires
+    slice-aggregate-family
+    family-requires
     make-requires
     judge-requires
     obey-requires
     obey-requires-2
-    slice-aggregate-write-all
-    write-all-requires
-    print-decimal-requires
-    slice-aggregate-write-all-2
-    write-all-requires-2
-    slice-aggregate-fail
-    fail-requires-2
+    end-requires
     returns-2
     add-number
     loop-less

@@ -1,8 +1,8 @@
 -- `trial::words::write_bytes` is safe and ends. Assumes nothing.
 use Prim.Native.Nat.{_≤_, _-_}
 use mathlib.Core.Path.{_≡_}
-use borrow.Author.Needs.{needs}
 use lib.ListN.{length}
+use borrow.Author.Needs.{needs}
 use Rattle.trial.proofs.words.write_bytes.Statement.{statement}
 use Rattle.trial.proofs.words.write_bytes.Tie as tie
 
@@ -30,29 +30,20 @@ returns-2 c = search needs
 loop-holds : tie.Need-loop-holds Inv-loop μ-loop
 loop-holds c = search needs
 
+shared-slice-read-byte : tie.Need-shared-slice-read-byte Inv-loop μ-loop
+shared-slice-read-byte c = search needs
+
 mul-at : tie.Need-mul-at Inv-loop μ-loop
 mul-at c = search needs
 
-shared-slice-read-text : tie.Need-shared-slice-read-text Inv-loop μ-loop
-shared-slice-read-text c = search needs
-
-cast-text : tie.Need-cast-text Inv-loop μ-loop
-cast-text c = search needs
-
-array-read-text : tie.Need-array-read-text Inv-loop μ-loop
-array-read-text c = search needs
+letter-requires : tie.Need-letter-requires Inv-loop μ-loop
+letter-requires c κs = search needs
 
 array-write-text : tie.Need-array-write-text Inv-loop μ-loop
 array-write-text c = search needs
 
-shared-slice-read-text-2 : tie.Need-shared-slice-read-text-2 Inv-loop μ-loop
-shared-slice-read-text-2 c = search needs
-
-cast-text-2 : tie.Need-cast-text-2 Inv-loop μ-loop
-cast-text-2 c = search needs
-
-array-read-text-2 : tie.Need-array-read-text-2 Inv-loop μ-loop
-array-read-text-2 c = search needs
+letter-requires-2 : tie.Need-letter-requires-2 Inv-loop μ-loop
+letter-requires-2 c κs = search needs
 
 add-text : tie.Need-add-text Inv-loop μ-loop
 add-text c = search needs
@@ -96,14 +87,11 @@ write-bytes-spec =
     returns
     returns-2
     loop-holds
+    shared-slice-read-byte
     mul-at
-    shared-slice-read-text
-    cast-text
-    array-read-text
+    letter-requires
     array-write-text
-    shared-slice-read-text-2
-    cast-text-2
-    array-read-text-2
+    letter-requires-2
     add-text
     array-write-text-2
     add-i
