@@ -15,21 +15,18 @@ const LENT: usize = 2 * MOST;
 
 // What the maker answered: its number, and the place of a value too large.
 fn write_made(made: Made) {
-    match made {
-        Made::Taken => {
-            io::write_all(1, b"0 -");
-        }
-        Made::WrongLength => {
-            io::write_all(1, b"1 -");
-        }
+    let number = match made {
+        Made::Taken => 0,
+        Made::WrongLength => 1,
         Made::TooLarge(place) => {
             io::write_all(1, b"2 ");
             io::print_decimal(1, place as u64);
+            return;
         }
-        Made::NoRoom => {
-            io::write_all(1, b"4 -");
-        }
-    }
+        Made::NoRoom => 4,
+    };
+    io::print_decimal(1, number);
+    io::write_all(1, b" -");
 }
 
 // `make VALUES ROOM`: NUMBER PLACE OUTPUT. The output's bytes are ee before the call, so that untouched ones show.
@@ -53,16 +50,13 @@ pub(crate) fn make(words: &[u8]) -> bool {
 
 // The reader's number and verdict. A block that was taken is mended where a bit is named.
 fn write_verdict(said: u8, bit: u8) {
-    if said == 0 && bit == 255 {
-        io::write_all(1, b"0 clean");
-    } else if said == 0 {
-        io::write_all(1, b"0 mended");
-    } else if said == 3 {
-        io::write_all(1, b"3 repeat");
-    } else {
-        io::print_decimal(1, said as u64);
-        io::write_all(1, b" -");
-    }
+    let place = match said {
+        0 => { if bit == 255 { 0 } else { 1 } }
+        3 => 2,
+        _ => 3,
+    };
+    io::print_decimal(1, said as u64);
+    io::write_all(1, part(b" clean, mended, repeat, -", b',', place));
 }
 
 // `judge BLOCK`: NUMBER VERDICT BLOCK PART. The part lies in the lent block, so it is copied while it lives, and the

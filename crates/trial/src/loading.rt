@@ -23,7 +23,7 @@ pub(crate) fn are_cells(word: &[u8]) -> bool {
     }
     let mut i = 0;
     while i < word.len() {
-        let d = digit(word[i]);
+        let d = digit(word, i);
         if d > 15 || i % 7 > 4 && d > 1 {
             return false;
         }
@@ -32,23 +32,15 @@ pub(crate) fn are_cells(word: &[u8]) -> bool {
     true
 }
 
-// What the digit at a place is worth, in a word that has passed the test.
-fn worth(word: &[u8], at: usize) -> u8 {
-    if at < word.len() {
-        return digit(word[at]);
-    }
-    0
-}
-
 // The cell that seven digits name.
 fn cell_of(seven: &[u8]) -> Cell {
     Cell {
-        set: worth(seven, 0),
-        code: worth(seven, 1) % 16 * 16 + worth(seven, 2) % 16,
-        ink: worth(seven, 3),
-        ground: worth(seven, 4),
-        flash: worth(seven, 5) == 1,
-        inverse: worth(seven, 6) == 1,
+        set: digit(seven, 0),
+        code: digit(seven, 1) % 16 * 16 + digit(seven, 2) % 16,
+        ink: digit(seven, 3),
+        ground: digit(seven, 4),
+        flash: digit(seven, 5) == 1,
+        inverse: digit(seven, 6) == 1,
     }
 }
 

@@ -68,6 +68,7 @@ fn run(fd: i32, name: &[u8]) {
         from: 0,
         to: 0,
         length: 0,
+        whole: false,
         ended: false,
         failed: false,
     };

@@ -1,7 +1,8 @@
 // The commands of the screen: `scr fresh`, `scr byte HH`, `scr run VALUES`, `scr dump`, `scr cell ROW COLUMN` and
 // `scr load CELLS CUR ATTR LAST KEPT PEND`. loading.rt reads the words of a state, and showing.rt writes them.
 //
-// A screen is large, so the words are read first, without it, and one function alone then acts on it.
+// A screen is large, and a proof pays for each that a function holds: so words are read without one, and what acts on
+// one is small.
 use crate::loading::are_cells;
 use crate::loading::cells_of;
 use crate::loading::pen_of;
@@ -12,11 +13,9 @@ use crate::showing::write_pen;
 use crate::words::after;
 use crate::words::byte;
 use crate::words::bytes as bytes_of;
-use crate::words::is;
 use crate::words::number;
 use crate::words::part;
 use crate::words::place_among;
-use pen::Pen;
 use screen::Answer;
 use screen::Read;
 use screen::Screen;
@@ -34,8 +33,8 @@ enum Wish {
     // So many values, which are in lent memory.
     Run(usize),
     Cell { row: u8, column: u8 },
-    // All of a state but its cells, which are still in the words.
-    Load(Pen),
+    // Cells, and a pen that is still to be read.
+    Load,
 }
 
 // Reads a command, from its second word on; the values of a run go to `values`.
@@ -43,11 +42,11 @@ fn wish_of(words: &[u8], values: &mut [u8], known: &mut bool) -> Wish {
     let given = after(words, b' ', 1);
     match place_among(part(words, b' ', 0), b"fresh dump byte run cell load") {
         0 => {
-            *known = is(words, b"fresh");
+            *known = words.len() == 5;
             Wish::Fresh
         }
         1 => {
-            *known = is(words, b"dump");
+            *known = words.len() == 4;
             Wish::Dump
         }
         2 => Wish::Byte(byte(given, known)),
@@ -62,7 +61,7 @@ fn wish_of(words: &[u8], values: &mut [u8], known: &mut bool) -> Wish {
         },
         5 => {
             *known = are_cells(part(given, b' ', 0));
-            Wish::Load(pen_of(after(given, b' ', 1), known))
+            Wish::Load
         }
         _ => {
             *known = false;
@@ -79,67 +78,80 @@ pub(crate) fn obey(words: &[u8], now: Screen, known: &mut bool) -> Screen {
     if !*known {
         return now;
     }
-    let mut next = now;
     match wish {
-        Wish::Nothing => {
-            return now;
-        }
+        Wish::Nothing => now,
+        Wish::Fresh => put(Screen::fresh()),
         Wish::Dump => {
             let cells = now.cells;
             write_cells(cells);
-            return now;
+            now
         }
+        Wish::Byte(value) => take(now, value),
+        Wish::Run(n) => take_all(now, first(&values, n)),
         Wish::Cell { row, column } => {
             write_read(now.cell(row, column));
-            return now;
+            now
         }
-        Wish::Fresh => {
-            next = Screen::fresh();
-            write_answer(Answer::Taken, false);
-        }
-        Wish::Load(pen) => {
-            next = Screen {
-                cells: cells_of(part(words, b' ', 1)),
-                pen,
-            };
-            write_answer(Answer::Taken, false);
-        }
-        Wish::Byte(value) => {
-            let done = now.step(value);
-            let answer = done.answer;
-            next = done.screen;
-            write_answer(answer, false);
-        }
-        Wish::Run(n) => {
-            let done = now.run(first(&values, n));
-            let answer = done.answer;
-            next = done.screen;
-            write_answer(answer, true);
-        }
+        Wish::Load => load(words, now, known),
     }
+}
+
+// A state that no call made.
+fn put(state: Screen) -> Screen {
+    io::write_all(1, b"0");
+    write_pen(state.pen);
+    state
+}
+
+// `byte HH`.
+fn take(now: Screen, value: u8) -> Screen {
+    let done = now.step(value);
+    let answer = done.answer;
+    let next = done.screen;
+    write_answer(answer);
     write_pen(next.pen);
     next
 }
 
-// What a call answered: its number, and for a run the place of a value too large.
-fn write_answer(answer: Answer, is_run: bool) {
-    match answer {
-        Answer::Taken => {
-            io::write_all(1, b"0");
-        }
-        Answer::TooLarge(place) => {
-            io::write_all(1, b"2");
-            if is_run {
-                io::write_all(1, b" ");
-                io::print_decimal(1, place as u64);
-                return;
-            }
-        }
-        Answer::Broken => {
-            io::write_all(1, b"5");
-        }
+// `run VALUES`.
+fn take_all(now: Screen, values: &[u8]) -> Screen {
+    let done = now.run(values);
+    let answer = done.answer;
+    let next = done.screen;
+    write_answer(answer);
+    write_place(answer);
+    write_pen(next.pen);
+    next
+}
+
+// `load CELLS CUR ATTR LAST KEPT PEND`, whose cells are in order.
+fn load(words: &[u8], now: Screen, known: &mut bool) -> Screen {
+    let pen = pen_of(after(words, b' ', 2), known);
+    if *known {
+        return put(Screen {
+            cells: cells_of(part(words, b' ', 1)),
+            pen,
+        });
     }
-    if is_run {
+    now
+}
+
+// The number that a call answered.
+fn write_answer(answer: Answer) {
+    let number = match answer {
+        Answer::Taken => 0,
+        Answer::TooLarge(_) => 2,
+        Answer::Broken => 5,
+    };
+    io::print_decimal(1, number);
+}
+
+// For a run, the place of a value too large.
+fn write_place(answer: Answer) {
+    if let Answer::TooLarge(place) = answer {
+        io::write_all(1, b" ");
+        io::print_decimal(1, place as u64);
+    } else {
         io::write_all(1, b" -");
     }
 }
@@ -148,8 +160,8 @@ fn write_answer(answer: Answer, is_run: bool) {
 fn write_read(found: Read) {
     match found {
         Read::There(cell) => {
-            io::write_all(1, b"0 ");
             let text = spelled(cell);
+            io::write_all(1, b"0 ");
             io::write_all(1, &text);
         }
         Read::Off => {

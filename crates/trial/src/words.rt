@@ -63,8 +63,12 @@ pub(crate) fn place_among(name: &[u8], names: &[u8]) -> usize {
     NONE
 }
 
-// What a lower-case hex digit is worth; 16 for any other character.
-pub(crate) fn digit(c: u8) -> u8 {
+// What the lower-case hex digit at a place is worth; 16 for any other character, and where there is none.
+pub(crate) fn digit(word: &[u8], at: usize) -> u8 {
+    if at >= word.len() {
+        return 16;
+    }
+    let c = word[at];
     match c {
         b'0'..=b'9' => c - b'0',
         b'a'..=b'f' => c - b'a' + 10,
@@ -87,8 +91,8 @@ pub(crate) fn bytes(word: &[u8], out: &mut [u8]) -> usize {
     }
     let mut i = 0;
     while i < n {
-        let high = digit(word[2 * i]);
-        let low = digit(word[2 * i + 1]);
+        let high = digit(word, 2 * i);
+        let low = digit(word, 2 * i + 1);
         if high > 15 {
             return NONE;
         }
@@ -115,13 +119,13 @@ fn decimal(word: &[u8]) -> usize {
     if word.len() == 0 {
         return NONE;
     }
-    if word.len() > 1 && word[0] == b'0' {
+    if word.len() > 1 && digit(word, 0) == 0 {
         return NONE;
     }
     let mut number = 0;
     let mut i = 0;
     while i < word.len() {
-        let d = digit(word[i]);
+        let d = digit(word, i);
         if d > 9 {
             return NONE;
         }

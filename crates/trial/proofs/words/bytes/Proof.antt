@@ -33,9 +33,6 @@ loop-holds c = search needs
 mul-digit : tie.Need-mul-digit Inv-loop μ-loop
 mul-digit c = search needs
 
-shared-slice-read-digit : tie.Need-shared-slice-read-digit Inv-loop μ-loop
-shared-slice-read-digit c = search needs
-
 digit-requires : tie.Need-digit-requires Inv-loop μ-loop
 digit-requires c κs = search needs
 
@@ -44,9 +41,6 @@ mul-digit-2 c = search needs
 
 add-digit : tie.Need-add-digit Inv-loop μ-loop
 add-digit c = search needs
-
-shared-slice-read-digit-2 : tie.Need-shared-slice-read-digit-2 Inv-loop μ-loop
-shared-slice-read-digit-2 c = search needs
 
 digit-requires-2 : tie.Need-digit-requires-2 Inv-loop μ-loop
 digit-requires-2 c κs = search needs
@@ -100,11 +94,9 @@ bytes-spec =
     returns-3
     loop-holds
     mul-digit
-    shared-slice-read-digit
     digit-requires
     mul-digit-2
     add-digit
-    shared-slice-read-digit-2
     digit-requires-2
     same-length
     returns-4
