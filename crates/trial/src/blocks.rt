@@ -44,7 +44,7 @@ pub(crate) fn make(words: &[u8]) -> bool {
     let mut lent = [0xeeu8; LENT];
     let output = &mut lent[0..room];
     write_made(block::make(&given[0..count], output));
-    write_bytes(b" ", output);
+    write_bytes(b' ', output);
     true
 }
 
@@ -74,7 +74,7 @@ pub(crate) fn judge(word: &[u8]) -> bool {
     let part = block::judge(block, &mut said, &mut bit);
     let k = append(part, &mut kept, 0);
     write_verdict(said, bit);
-    write_bytes(b" ", block);
-    write_bytes(b" ", first(&kept, k));
+    write_bytes(b' ', block);
+    write_bytes(b' ', first(&kept, k));
     true
 }

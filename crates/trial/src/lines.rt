@@ -7,15 +7,13 @@ use bytes::scan::find;
 pub(crate) const LONGEST: usize = 9000;
 
 // Where the cutting stands: from where to where the portion is still to be cut; how many characters the line has so
-// far, FULL where they are too many, and whether that is all of it; whether it is the last, and whether the script could
-// not be read.
+// far, FULL where they are too many, and whether that is all of it; and whether the script has ended.
 pub(crate) struct At {
     pub(crate) from: usize,
     pub(crate) to: usize,
     pub(crate) length: usize,
     pub(crate) whole: bool,
     pub(crate) ended: bool,
-    pub(crate) failed: bool,
 }
 
 // Adds what the portion has of the line.
@@ -30,33 +28,40 @@ fn take(mut at: At, portion: &[u8], line: &mut [u8]) -> At {
     }
     let e = find(portion, from, to, b'\n');
     at.length = append(&portion[from..e], line, at.length);
-    at.whole = e < to;
     if e < to {
+        at.whole = true;
         at.from = e + 1;
     }
     at
 }
 
-// Cuts the next line. It reads a portion whenever the one before it is used up.
-pub(crate) fn cut(fd: i32, was: At, portion: &mut [u8], line: &mut [u8]) -> At {
+// Reads the next portion. Where there is none the line ends with the script; where it cannot be read there is no line,
+// but an error line with `name`.
+fn read(fd: i32, name: &[u8], mut at: At, portion: &mut [u8]) -> At {
+    let got = libc::read(fd, portion);
+    at.from = 0;
+    at.to = io::count(got, portion);
+    at.whole = got <= 0;
+    at.ended = got <= 0;
+    if got < 0 {
+        at.length = 0;
+        os::fail(name);
+    }
+    at
+}
+
+// Cuts the next line: first what is left of the portion before, then portion by portion. No script has more portions
+// than turns.
+pub(crate) fn cut(fd: i32, name: &[u8], was: At, portion: &mut [u8], line: &mut [u8]) -> At {
     let mut at = was;
     at.length = 0;
+    at.whole = false;
+    at = take(at, portion, line);
     let mut turns = u64::MAX;
-    while turns > 0 {
+    while turns > 0 && !at.whole {
+        at = read(fd, name, at, portion);
         at = take(at, portion, line);
-        if at.whole {
-            return at;
-        }
-        let got = libc::read(fd, portion);
-        if got <= 0 {
-            at.ended = true;
-            at.failed = got < 0;
-            return at;
-        }
-        at.from = 0;
-        at.to = io::count(got, portion);
         turns -= 1;
     }
-    at.ended = true;
     at
 }

@@ -3,7 +3,9 @@ use crate::showing::SEQUENCES;
 use crate::words::after;
 use crate::words::byte;
 use crate::words::digit;
+use crate::words::field;
 use crate::words::is;
+use crate::words::is_dash;
 use crate::words::number;
 use crate::words::part;
 use crate::words::place_among;
@@ -64,14 +66,14 @@ pub(crate) fn cells_of(word: &[u8]) -> [Cell; 1000] {
 // ROW,COLUMN and whatever follows.
 fn place_of(numbers: &[u8], good: &mut bool) -> Place {
     Place {
-        row: number(part(numbers, b',', 0), 255, good),
-        column: number(part(numbers, b',', 1), 255, good),
+        row: field(numbers, b',', 0, 255, good),
+        column: field(numbers, b',', 1, 255, good),
     }
 }
 
 // `-`, or a colour.
 fn waiting_of(word: &[u8], good: &mut bool) -> Waiting {
-    if is(word, b"-") {
+    if is_dash(word) {
         return Waiting::Nothing;
     }
     Waiting::Ground(number(word, 255, good))
@@ -80,22 +82,22 @@ fn waiting_of(word: &[u8], good: &mut bool) -> Waiting {
 // SET,INK,GROUND,WAITING,FLASH,INVERSE.
 fn attributes_of(numbers: &[u8], good: &mut bool) -> Attributes {
     Attributes {
-        set: number(part(numbers, b',', 0), 255, good),
-        ink: number(part(numbers, b',', 1), 255, good),
-        ground: number(part(numbers, b',', 2), 255, good),
+        set: field(numbers, b',', 0, 255, good),
+        ink: field(numbers, b',', 1, 255, good),
+        ground: field(numbers, b',', 2, 255, good),
         waiting: waiting_of(part(numbers, b',', 3), good),
-        flash: number(part(numbers, b',', 4), 1, good) == 1,
+        flash: field(numbers, b',', 4, 1, good) == 1,
         inverse: number(after(numbers, b',', 5), 1, good) == 1,
     }
 }
 
 // `-`, or SET:CODE.
 fn last_of(word: &[u8], good: &mut bool) -> Last {
-    if is(word, b"-") {
+    if is_dash(word) {
         return Last::Never;
     }
     Last::Character {
-        set: number(part(word, b':', 0), 255, good),
+        set: field(word, b':', 0, 255, good),
         code: byte(after(word, b':', 1), good),
     }
 }

@@ -2,8 +2,8 @@
 // format of docs/TRIAL.md. With file names as arguments it runs those scripts in turn, each from the start state; with
 // none it reads standard input.
 //
-// lines.rt      a script cut into lines, and each line answered
-// words.rt      the bytes and numbers that words name
+// lines.rt      a script cut into lines
+// words.rt      the parts of a text, and the bytes and numbers that words name
 // parts.rt      parts of lent memory
 // blocks.rt     the commands of the block code
 // receiving.rt  the commands of the line receiver
@@ -39,10 +39,10 @@ fn is_answered(line: &[u8], length: usize) -> bool {
 
 // Which family's command a line is, by its first word; a line that is too long is no command.
 fn family(line: &[u8], length: usize) -> usize {
-    if length > line.len() {
+    if length > LONGEST {
         return NONE;
     }
-    place_among(part(first(line, length), b' ', 0), b"make judge rx scr")
+    place_among(part(line, b' ', 0), b"make judge rx scr")
 }
 
 // Ends the answer to a line, which is `? NUMBER` where it is no command; false where it could not be written.
@@ -70,19 +70,15 @@ fn run(fd: i32, name: &[u8]) {
         length: 0,
         whole: false,
         ended: false,
-        failed: false,
     };
     let mut number = 1;
     while number < u64::MAX && !at.ended {
-        at = lines::cut(fd, at, &mut portion, &mut line);
-        if at.failed {
-            os::fail(name);
-            return;
-        }
+        at = lines::cut(fd, name, at, &mut portion, &mut line);
         if is_answered(&line, at.length) {
-            let words = after(first(&line, at.length), b' ', 1);
+            let command = first(&line, at.length);
+            let words = after(command, b' ', 1);
             let mut known = true;
-            match family(&line, at.length) {
+            match family(command, at.length) {
                 0 => known = blocks::make(words),
                 1 => known = blocks::judge(words),
                 2 => receiver = receiving::obey(words, receiver, &mut known),
@@ -90,7 +86,7 @@ fn run(fd: i32, name: &[u8]) {
                 _ => known = false,
             }
             if !end(known, number) {
-                return;
+                at.ended = true;
             }
         }
         number += 1;
@@ -105,13 +101,14 @@ fn run_file(i: usize) {
         os::fail(b"the name of a script");
         return;
     }
-    let fd = os::open_read(&path[..length]);
+    let name = &path[0..length];
+    let fd = os::open_read(name);
     if fd < 0 {
-        os::fail(&path[..length]);
-        return;
+        os::fail(name);
+    } else {
+        run(fd, name);
+        libc::close(fd);
     }
-    run(fd, &path[..length]);
-    libc::close(fd);
 }
 
 // Runs the scripts that the arguments name, or standard input where there are none.

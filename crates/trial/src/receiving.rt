@@ -5,7 +5,7 @@ use crate::parts::first;
 use crate::words::after;
 use crate::words::byte;
 use crate::words::bytes as bytes_of;
-use crate::words::number;
+use crate::words::field;
 use crate::words::part;
 use crate::words::place_among;
 use crate::words::write_bytes;
@@ -55,16 +55,16 @@ fn state_of(words: &[u8], good: &mut bool) -> Receiver {
     if bytes_of(after(words, b' ', 4), &mut held) != 17 {
         *good = false;
     }
-    let seen = number(part(words, b' ', 3), 255, good);
-    let phase = match number(part(words, b' ', 0), 2, good) {
+    let seen = field(words, b' ', 3, 255, good);
+    let phase = match field(words, b' ', 0, 2, good) {
         0 => Phase::Off,
         1 => Phase::Collecting,
         _ => Phase::Waiting(seen),
     };
     Receiver {
         held,
-        count: number(part(words, b' ', 2), 255, good) as usize,
-        number: number(part(words, b' ', 1), 255, good),
+        count: field(words, b' ', 2, 255, good) as usize,
+        number: field(words, b' ', 1, 255, good),
         phase,
     }
 }
@@ -91,7 +91,7 @@ fn write_state(r: Receiver) {
     io::write_all(1, b",");
     io::print_decimal(1, r.count as u64);
     write_number(b',', seen);
-    write_bytes(b",", first(&held, r.count));
+    write_bytes(b',', first(&held, r.count));
 }
 
 // What a call handed back.
@@ -100,8 +100,10 @@ fn answer(done: Stepped) -> Receiver {
     let values = done.values;
     let request = done.request;
     io::print_decimal(1, done.answer as u64);
-    write_bytes(b" passed=", first(&values, done.passed));
-    write_bytes(b" modem=", first(&request, done.asked));
+    io::write_all(1, b" passed");
+    write_bytes(b'=', first(&values, done.passed));
+    io::write_all(1, b" modem");
+    write_bytes(b'=', first(&request, done.asked));
     write_state(next);
     next
 }

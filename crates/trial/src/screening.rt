@@ -13,6 +13,7 @@ use crate::showing::write_pen;
 use crate::words::after;
 use crate::words::byte;
 use crate::words::bytes as bytes_of;
+use crate::words::field;
 use crate::words::number;
 use crate::words::part;
 use crate::words::place_among;
@@ -30,17 +31,15 @@ enum Wish {
     Fresh,
     Dump,
     Byte(u8),
-    // So many values, which are in lent memory.
-    Run(usize),
+    Run,
     Cell { row: u8, column: u8 },
-    // Cells, and a pen that is still to be read.
     Load,
 }
 
-// Reads a command, from its second word on; the values of a run go to `values`.
-fn wish_of(words: &[u8], values: &mut [u8], known: &mut bool) -> Wish {
+// Reads a command, from its second word on; what is long in it is read where it is taken.
+fn wish_of(words: &[u8], known: &mut bool) -> Wish {
     let given = after(words, b' ', 1);
-    match place_among(part(words, b' ', 0), b"fresh dump byte run cell load") {
+    let wish = match place_among(part(words, b' ', 0), b"fresh dump byte run cell load") {
         0 => {
             *known = words.len() == 5;
             Wish::Fresh
@@ -50,34 +49,24 @@ fn wish_of(words: &[u8], values: &mut [u8], known: &mut bool) -> Wish {
             Wish::Dump
         }
         2 => Wish::Byte(byte(given, known)),
-        3 => {
-            let n = bytes_of(given, values);
-            *known = n <= values.len();
-            return Wish::Run(n);
-        }
+        3 => Wish::Run,
         4 => Wish::Cell {
-            row: number(part(given, b' ', 0), 255, known),
+            row: field(given, b' ', 0, 255, known),
             column: number(after(given, b' ', 1), 255, known),
         },
-        5 => {
-            *known = are_cells(part(given, b' ', 0));
-            Wish::Load
-        }
+        5 => Wish::Load,
         _ => {
             *known = false;
             Wish::Nothing
         }
-    }
+    };
+    if *known { wish } else { Wish::Nothing }
 }
 
 // Answers a command of this family, from its second word on and up to the end of the line: the screen after it. Words
 // that are no command leave it as it is, and are not `known`.
 pub(crate) fn obey(words: &[u8], now: Screen, known: &mut bool) -> Screen {
-    let mut values = [0u8; LONGEST_RUN];
-    let wish = wish_of(words, &mut values, known);
-    if !*known {
-        return now;
-    }
+    let wish = wish_of(words, known);
     match wish {
         Wish::Nothing => now,
         Wish::Fresh => put(Screen::fresh()),
@@ -87,12 +76,12 @@ pub(crate) fn obey(words: &[u8], now: Screen, known: &mut bool) -> Screen {
             now
         }
         Wish::Byte(value) => take(now, value),
-        Wish::Run(n) => take_all(now, first(&values, n)),
+        Wish::Run => take_all(after(words, b' ', 1), now, known),
         Wish::Cell { row, column } => {
             write_read(now.cell(row, column));
             now
         }
-        Wish::Load => load(words, now, known),
+        Wish::Load => load(after(words, b' ', 1), now, known),
     }
 }
 
@@ -103,7 +92,7 @@ fn put(state: Screen) -> Screen {
     state
 }
 
-// `byte HH`.
+// One value.
 fn take(now: Screen, value: u8) -> Screen {
     let done = now.step(value);
     let answer = done.answer;
@@ -113,9 +102,15 @@ fn take(now: Screen, value: u8) -> Screen {
     next
 }
 
-// `run VALUES`.
-fn take_all(now: Screen, values: &[u8]) -> Screen {
-    let done = now.run(values);
+// VALUES.
+fn take_all(word: &[u8], now: Screen, known: &mut bool) -> Screen {
+    let mut values = [0u8; LONGEST_RUN];
+    let n = bytes_of(word, &mut values);
+    if n > LONGEST_RUN {
+        *known = false;
+        return now;
+    }
+    let done = now.run(first(&values, n));
     let answer = done.answer;
     let next = done.screen;
     write_answer(answer);
@@ -124,14 +119,14 @@ fn take_all(now: Screen, values: &[u8]) -> Screen {
     next
 }
 
-// `load CELLS CUR ATTR LAST KEPT PEND`, whose cells are in order.
+// CELLS CUR ATTR LAST KEPT PEND.
 fn load(words: &[u8], now: Screen, known: &mut bool) -> Screen {
-    let pen = pen_of(after(words, b' ', 2), known);
+    let word = part(words, b' ', 0);
+    *known = are_cells(word);
+    let pen = pen_of(after(words, b' ', 1), known);
     if *known {
-        return put(Screen {
-            cells: cells_of(part(words, b' ', 1)),
-            pen,
-        });
+        let cells = cells_of(word);
+        return put(Screen { cells, pen });
     }
     now
 }

@@ -66,7 +66,7 @@ fn write_last(last: Last) {
         }
         Last::Character { set, code } => {
             io::print_decimal(1, set as u64);
-            write_bytes(b":", &[code]);
+            write_bytes(b':', &[code]);
         }
     }
 }
@@ -77,17 +77,16 @@ fn write_sequence(sequence: Sequence) {
         Sequence::Escape => 1,
         Sequence::Long => 2,
         Sequence::Control => 3,
-        Sequence::Address => 4,
+        Sequence::Address | Sequence::Row(_) => 4,
         Sequence::Repeat => 5,
         Sequence::Single => 6,
         Sequence::Separator => 7,
-        Sequence::Row(code) => {
-            write_bytes(b" pend=us:", &[code]);
-            return;
-        }
     };
     io::write_all(1, b" pend=");
     io::write_all(1, part(&SEQUENCES, b' ', place));
+    if let Sequence::Row(code) = sequence {
+        write_bytes(b':', &[code]);
+    }
 }
 
 // All of a state but its cells.

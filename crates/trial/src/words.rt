@@ -27,6 +27,11 @@ pub(crate) fn is(word: &[u8], name: &[u8]) -> bool {
     true
 }
 
+// Whether a word is `-`, which stands for none.
+pub(crate) fn is_dash(word: &[u8]) -> bool {
+    is(word, b"-")
+}
+
 // What stands after so many marks; nothing where there are fewer.
 pub(crate) fn after(text: &[u8], mark: u8, marks: usize) -> &[u8] {
     let n = text.len();
@@ -79,30 +84,24 @@ pub(crate) fn digit(word: &[u8], at: usize) -> u8 {
 // Puts the bytes that a word names at the start of `out`: how many they are, or NONE where it names none, or more than
 // fit.
 pub(crate) fn bytes(word: &[u8], out: &mut [u8]) -> usize {
-    if is(word, b"-") {
+    if is_dash(word) {
         return 0;
     }
     let n = word.len() / 2;
-    if n == 0 || word.len() % 2 != 0 {
-        return NONE;
-    }
-    if n > out.len() {
-        return NONE;
-    }
     let mut i = 0;
-    while i < n {
+    while i < n && i < out.len() {
         let high = digit(word, 2 * i);
         let low = digit(word, 2 * i + 1);
-        if high > 15 {
+        if high > 15 || low > 15 {
             return NONE;
         }
-        if low > 15 {
-            return NONE;
-        }
-        out[i] = high * 16 + low;
+        out[i] = high % 16 * 16 + low % 16;
         i += 1;
     }
-    n
+    if i == 0 || i < n || word.len() % 2 != 0 {
+        return NONE;
+    }
+    i
 }
 
 // The one byte that a word names.
@@ -116,10 +115,7 @@ pub(crate) fn byte(word: &[u8], good: &mut bool) -> u8 {
 
 // The decimal number that a word names, or NONE where it names none, or one above 255: the format has no larger.
 fn decimal(word: &[u8]) -> usize {
-    if word.len() == 0 {
-        return NONE;
-    }
-    if word.len() > 1 && digit(word, 0) == 0 {
+    if word.len() == 0 || word.len() > 1 && digit(word, 0) == 0 {
         return NONE;
     }
     let mut number = 0;
@@ -148,6 +144,11 @@ pub(crate) fn number(word: &[u8], most: u8, good: &mut bool) -> u8 {
     n as u8
 }
 
+// The same in the part after so many marks.
+pub(crate) fn field(text: &[u8], mark: u8, marks: usize, most: u8, good: &mut bool) -> u8 {
+    number(part(text, mark, marks), most, good)
+}
+
 // The lower-case hex digit that is worth so much.
 pub(crate) fn letter(worth: u8) -> u8 {
     if worth < 10 {
@@ -156,26 +157,23 @@ pub(crate) fn letter(worth: u8) -> u8 {
     b'a' - 10 + worth % 16
 }
 
-// Writes what stands before them, and bytes as a word, `-` for none; no answer has a word of more than MOST.
-pub(crate) fn write_bytes(before: &[u8], bytes: &[u8]) {
-    io::write_all(1, before);
-    if bytes.len() == 0 {
-        io::write_all(1, b"-");
-        return;
-    }
+// Writes a mark, and bytes as a word after it, `-` for none; no answer has a word of more than MOST.
+pub(crate) fn write_bytes(mark: u8, bytes: &[u8]) {
     if bytes.len() > MOST {
         return;
     }
-    let mut text = [0u8; 2 * MOST];
+    let mut text = [mark; 2 + 2 * MOST];
+    text[1] = b'-';
+    let mut n = 2;
     let mut i = 0;
     while i < bytes.len() {
         let byte = bytes[i];
-        let at = 2 * i;
-        text[at] = letter(byte / 16);
-        text[at + 1] = letter(byte % 16);
+        text[2 * i + 1] = letter(byte / 16);
+        text[2 * i + 2] = letter(byte % 16);
         i += 1;
+        n = 2 * i + 1;
     }
-    io::write_all(1, first(&text, 2 * i));
+    io::write_all(1, first(&text, n));
 }
 
 // Writes a mark and a number after it.

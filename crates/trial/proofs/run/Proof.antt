@@ -7,10 +7,12 @@ use Rattle.trial.proofs.run.Statement.{statement}
 use Rattle.trial.proofs.run.Tie as tie
 
 abbrev Inv-loop : tie.InvT-loop
-Inv-loop fd name portion₀ line₀ receiver₀ screen₀ at₀ number₀ portion line receiver screen at number = (length portion ≡ 65536) × (length line ≡ 9000)
+Inv-loop fd name portion₀ line₀ receiver₀ screen₀ at₀ number₀ portion line receiver screen at number =
+    (length portion ≡ 65536) × (length line ≡ 9000)
 
 abbrev μ-loop : tie.MeasureT-loop
-μ-loop fd name portion₀ line₀ receiver₀ screen₀ at₀ number₀ portion line receiver screen at number = 18446744073709551615 - number
+μ-loop fd name portion₀ line₀ receiver₀ screen₀ at₀ number₀ portion line receiver screen at number =
+    18446744073709551615 - number
 
 large-buffer-requires : tie.Need-large-buffer-requires Inv-loop μ-loop
 large-buffer-requires c κs = search needs
@@ -33,12 +35,6 @@ slice-aggregate-cut-2 c = search needs
 cut-requires : tie.Need-cut-requires Inv-loop μ-loop
 cut-requires c κs = search needs
 
-fail-requires : tie.Need-fail-requires Inv-loop μ-loop
-fail-requires c κs = search needs
-
-returns : tie.Need-returns Inv-loop μ-loop
-returns c = search needs
-
 slice-aggregate-is-answered : tie.Need-slice-aggregate-is-answered Inv-loop μ-loop
 slice-aggregate-is-answered c = search needs
 
@@ -53,9 +49,6 @@ first-requires c κs = search needs
 
 after-requires : tie.Need-after-requires Inv-loop μ-loop
 after-requires c κs = search needs
-
-slice-aggregate-family : tie.Need-slice-aggregate-family Inv-loop μ-loop
-slice-aggregate-family c = search needs
 
 family-requires : tie.Need-family-requires Inv-loop μ-loop
 family-requires c κs = search needs
@@ -75,9 +68,6 @@ obey-requires-2 c κs = search needs
 end-requires : tie.Need-end-requires Inv-loop μ-loop
 end-requires c κs = search needs
 
-returns-2 : tie.Need-returns-2 Inv-loop μ-loop
-returns-2 c = search needs
-
 add-number : tie.Need-add-number Inv-loop μ-loop
 add-number c = search needs
 
@@ -87,11 +77,11 @@ loop-less c = search needs
 loop-again : tie.Need-loop-again Inv-loop μ-loop
 loop-again c = search needs
 
-returns-3 : tie.Need-returns-3 Inv-loop μ-loop
-returns-3 c = search needs
+returns : tie.Need-returns Inv-loop μ-loop
+returns c = search needs
 
-returns-4 : tie.Need-returns-4 Inv-loop μ-loop
-returns-4 c = search needs
+returns-2 : tie.Need-returns-2 Inv-loop μ-loop
+returns-2 c = search needs
 
 pub run-spec : {M : Type 1} → statement M
 run-spec =
@@ -106,23 +96,19 @@ run-spec =
     slice-aggregate-cut
     slice-aggregate-cut-2
     cut-requires
-    fail-requires
-    returns
     slice-aggregate-is-answered
     is-answered-requires
     slice-aggregate-first
     first-requires
     after-requires
-    slice-aggregate-family
     family-requires
     make-requires
     judge-requires
     obey-requires
     obey-requires-2
     end-requires
-    returns-2
     add-number
     loop-less
     loop-again
-    returns-3
-    returns-4)
+    returns
+    returns-2)
