@@ -59,22 +59,26 @@ fn write_verdict(said: u8, bit: u8) {
     io::write_all(1, part(b" clean, mended, repeat, -", b',', place));
 }
 
-// `judge BLOCK`: NUMBER VERDICT BLOCK PART. The part lies in the lent block, so it is copied while it lives, and the
+// Judges a lent block: NUMBER VERDICT BLOCK PART. The part lies in the block, so it is copied while it lives, and the
 // block itself is read once it is back. `said` begins as no number of the paper, so that one left unsaid shows.
+fn write_judged(block: &mut [u8]) {
+    let mut said: u8 = 255;
+    let mut bit: u8 = 0;
+    let mut kept = [0u8; LENT];
+    let part = block::judge(block, &mut said, &mut bit);
+    let k = append(part, &mut kept, 0);
+    write_verdict(said, bit);
+    write_bytes(b' ', block);
+    write_bytes(b' ', first(&kept, k));
+}
+
+// `judge BLOCK`.
 pub(crate) fn judge(word: &[u8]) -> bool {
     let mut lent = [0u8; LENT];
     let n = bytes_of(word, &mut lent);
     if n > MOST {
         return false;
     }
-    let mut said: u8 = 255;
-    let mut bit: u8 = 0;
-    let mut kept = [0u8; LENT];
-    let block = &mut lent[0..n];
-    let part = block::judge(block, &mut said, &mut bit);
-    let k = append(part, &mut kept, 0);
-    write_verdict(said, bit);
-    write_bytes(b' ', block);
-    write_bytes(b' ', first(&kept, k));
+    write_judged(&mut lent[0..n]);
     true
 }

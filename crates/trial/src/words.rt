@@ -2,6 +2,7 @@
 //
 // Whoever has a word read lends `good`, which a word that names nothing of its kind makes false. So several words are
 // read one after the other, and asked for once.
+use crate::parts::append;
 use crate::parts::first;
 use bytes::scan::find;
 
@@ -157,23 +158,26 @@ pub(crate) fn letter(worth: u8) -> u8 {
     b'a' - 10 + worth % 16
 }
 
+// The two digits of a byte.
+fn pair(byte: u8) -> [u8; 2] {
+    [letter(byte / 16), letter(byte % 16)]
+}
+
 // Writes a mark, and bytes as a word after it, `-` for none; no answer has a word of more than MOST.
 pub(crate) fn write_bytes(mark: u8, bytes: &[u8]) {
-    if bytes.len() > MOST {
-        return;
-    }
-    let mut text = [mark; 2 + 2 * MOST];
+    let mut text = [mark; 1 + 2 * MOST];
     text[1] = b'-';
-    let mut n = 2;
+    let mut at = 1;
     let mut i = 0;
     while i < bytes.len() {
-        let byte = bytes[i];
-        text[2 * i + 1] = letter(byte / 16);
-        text[2 * i + 2] = letter(byte % 16);
+        let two = pair(bytes[i]);
+        at = append(&two, &mut text, at);
         i += 1;
-        n = 2 * i + 1;
     }
-    io::write_all(1, first(&text, n));
+    if i == 0 {
+        at = 2;
+    }
+    io::write_all(1, first(&text, at));
 }
 
 // Writes a mark and a number after it.

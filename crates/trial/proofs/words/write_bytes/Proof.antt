@@ -7,13 +7,10 @@ use Rattle.trial.proofs.words.write_bytes.Statement.{statement}
 use Rattle.trial.proofs.words.write_bytes.Tie as tie
 
 abbrev Inv-loop : tie.InvT-loop
-Inv-loop mark bytes text₀ n₀ i₀ text n i = (i ≤ length bytes) × (length bytes ≤ 64) × (length text ≡ 130)
+Inv-loop mark bytes text₀ at₀ i₀ text at i = (i ≤ length bytes) × (length text ≡ 129)
 
 abbrev μ-loop : tie.MeasureT-loop
-μ-loop mark bytes text₀ n₀ i₀ text n i = length bytes - i
-
-returns : tie.Need-returns Inv-loop μ-loop
-returns c = search needs
+μ-loop mark bytes text₀ at₀ i₀ text at i = length bytes - i
 
 array-write-text : tie.Need-array-write-text Inv-loop μ-loop
 array-write-text c = search needs
@@ -21,41 +18,23 @@ array-write-text c = search needs
 loop-holds : tie.Need-loop-holds Inv-loop μ-loop
 loop-holds c = search needs
 
-shared-slice-read-byte : tie.Need-shared-slice-read-byte Inv-loop μ-loop
-shared-slice-read-byte c = search needs
+shared-slice-read-pair : tie.Need-shared-slice-read-pair Inv-loop μ-loop
+shared-slice-read-pair c = search needs
 
-letter-requires : tie.Need-letter-requires Inv-loop μ-loop
-letter-requires c κs = search needs
+pair-requires : tie.Need-pair-requires Inv-loop μ-loop
+pair-requires c κs = search needs
 
-mul-text : tie.Need-mul-text Inv-loop μ-loop
-mul-text c = search needs
+slice-aggregate-append : tie.Need-slice-aggregate-append Inv-loop μ-loop
+slice-aggregate-append c = search needs
 
-add-text : tie.Need-add-text Inv-loop μ-loop
-add-text c = search needs
+slice-aggregate-append-2 : tie.Need-slice-aggregate-append-2 Inv-loop μ-loop
+slice-aggregate-append-2 c = search needs
 
-array-write-text-2 : tie.Need-array-write-text-2 Inv-loop μ-loop
-array-write-text-2 c = search needs
-
-letter-requires-2 : tie.Need-letter-requires-2 Inv-loop μ-loop
-letter-requires-2 c κs = search needs
-
-mul-text-2 : tie.Need-mul-text-2 Inv-loop μ-loop
-mul-text-2 c = search needs
-
-add-text-2 : tie.Need-add-text-2 Inv-loop μ-loop
-add-text-2 c = search needs
-
-array-write-text-3 : tie.Need-array-write-text-3 Inv-loop μ-loop
-array-write-text-3 c = search needs
+append-requires : tie.Need-append-requires Inv-loop μ-loop
+append-requires c κs = search needs
 
 add-i : tie.Need-add-i Inv-loop μ-loop
 add-i c = search needs
-
-mul-n : tie.Need-mul-n Inv-loop μ-loop
-mul-n c = search needs
-
-add-n : tie.Need-add-n Inv-loop μ-loop
-add-n c = search needs
 
 loop-less : tie.Need-loop-less Inv-loop μ-loop
 loop-less c = search needs
@@ -72,8 +51,8 @@ first-requires c κs = search needs
 write-all-requires : tie.Need-write-all-requires Inv-loop μ-loop
 write-all-requires c κs = search needs
 
-returns-2 : tie.Need-returns-2 Inv-loop μ-loop
-returns-2 c = search needs
+returns : tie.Need-returns Inv-loop μ-loop
+returns c = search needs
 
 pub write-bytes-spec : {M : Type 1} → statement M
 write-bytes-spec =
@@ -81,24 +60,17 @@ write-bytes-spec =
     (tie.spec
     Inv-loop
     μ-loop
-    returns
     array-write-text
     loop-holds
-    shared-slice-read-byte
-    letter-requires
-    mul-text
-    add-text
-    array-write-text-2
-    letter-requires-2
-    mul-text-2
-    add-text-2
-    array-write-text-3
+    shared-slice-read-pair
+    pair-requires
+    slice-aggregate-append
+    slice-aggregate-append-2
+    append-requires
     add-i
-    mul-n
-    add-n
     loop-less
     loop-again
     slice-aggregate-first
     first-requires
     write-all-requires
-    returns-2)
+    returns)
