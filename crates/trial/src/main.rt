@@ -58,7 +58,8 @@ fn end(known: bool, number: u64) -> bool {
     false
 }
 
-// Runs one script to its end, or until an answer cannot be written. `name` is for error lines.
+// Runs one script to its end, or until an answer cannot be written. `name` is for error lines. The receiver and the
+// screen are held here alone, and handed on for their own commands; no script has more lines than a u64 counts.
 fn run(fd: i32, name: &[u8]) {
     let mut portion = io::large_buffer();
     let mut line = [0u8; LONGEST];

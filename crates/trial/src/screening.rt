@@ -36,7 +36,8 @@ enum Wish {
     Load,
 }
 
-// Reads a command, from its second word on; what is long in it is read where it is taken.
+// Reads a command, from its second word on; what is long in it is read where it is taken. After `fresh` and `dump`
+// nothing may stand, so they are known by their length too.
 fn wish_of(words: &[u8], known: &mut bool) -> Wish {
     let given = after(words, b' ', 1);
     let wish = match place_among(part(words, b' ', 0), b"fresh dump byte run cell load") {
@@ -92,7 +93,7 @@ fn put(state: Screen) -> Screen {
     state
 }
 
-// One value.
+// `byte HH`.
 fn take(now: Screen, value: u8) -> Screen {
     let done = now.step(value);
     let answer = done.answer;
@@ -102,7 +103,7 @@ fn take(now: Screen, value: u8) -> Screen {
     next
 }
 
-// VALUES.
+// `run VALUES`, from its values on.
 fn take_all(word: &[u8], now: Screen, known: &mut bool) -> Screen {
     let mut values = [0u8; LONGEST_RUN];
     let n = bytes_of(word, &mut values);
@@ -119,7 +120,7 @@ fn take_all(word: &[u8], now: Screen, known: &mut bool) -> Screen {
     next
 }
 
-// CELLS CUR ATTR LAST KEPT PEND.
+// `load CELLS CUR ATTR LAST KEPT PEND`, from its cells on.
 fn load(words: &[u8], now: Screen, known: &mut bool) -> Screen {
     let word = part(words, b' ', 0);
     *known = are_cells(word);

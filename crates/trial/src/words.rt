@@ -1,7 +1,7 @@
 // The parts of a text, the bytes and numbers that its words name, and bytes and numbers as words.
 //
 // Whoever has a word read lends `good`, which a word that names nothing of its kind makes false. So several words are
-// read one after the other, and asked for once.
+// read one after the other, and the question is put once.
 use crate::parts::append;
 use crate::parts::first;
 use bytes::scan::find;
