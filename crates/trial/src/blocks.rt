@@ -10,9 +10,6 @@ use crate::words::part;
 use crate::words::write_bytes;
 use maker::Made;
 
-// What is lent has room to spare: the prover spells an array of up to 64 elements out, one by one.
-const LENT: usize = 2 * MOST;
-
 // What the maker answered: its number, and the place of a value too large.
 fn write_made(made: Made) {
     let number = match made {
@@ -32,7 +29,7 @@ fn write_made(made: Made) {
 // `make VALUES ROOM`: NUMBER PLACE OUTPUT. The output's bytes are ee before the call, so that untouched ones show.
 pub(crate) fn make(words: &[u8]) -> bool {
     let mut good = true;
-    let mut given = [0u8; LENT];
+    let mut given = [0u8; MOST];
     let count = bytes_of(part(words, b' ', 0), &mut given);
     let room = number(after(words, b' ', 1), 64, &mut good) as usize;
     if count > MOST || !good {
@@ -41,7 +38,7 @@ pub(crate) fn make(words: &[u8]) -> bool {
     if room > MOST {
         return false;
     }
-    let mut lent = [0xeeu8; LENT];
+    let mut lent = [0xeeu8; MOST];
     let output = &mut lent[0..room];
     write_made(block::make(&given[0..count], output));
     write_bytes(b' ', output);
@@ -64,7 +61,7 @@ fn write_verdict(said: u8, bit: u8) {
 fn write_judged(block: &mut [u8]) {
     let mut said: u8 = 255;
     let mut bit: u8 = 0;
-    let mut kept = [0u8; LENT];
+    let mut kept = [0u8; MOST];
     let part = block::judge(block, &mut said, &mut bit);
     let k = append(part, &mut kept, 0);
     write_verdict(said, bit);
@@ -74,7 +71,7 @@ fn write_judged(block: &mut [u8]) {
 
 // `judge BLOCK`.
 pub(crate) fn judge(word: &[u8]) -> bool {
-    let mut lent = [0u8; LENT];
+    let mut lent = [0u8; MOST];
     let n = bytes_of(word, &mut lent);
     if n > MOST {
         return false;
