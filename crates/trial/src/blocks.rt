@@ -1,89 +1,81 @@
-// The commands of the block code: `make VALUES ROOM` and `judge BLOCK`.
-use crate::parts::copy;
+// The commands of the block code: `make VALUES ROOM` and `judge BLOCK`. Each answers its words, up to the end of the
+// line, or says that they are no such command.
+use crate::parts::append;
 use crate::parts::first;
-use crate::parts::first_mut;
 use crate::words::MOST;
-use crate::words::NONE;
 use crate::words::after;
 use crate::words::bytes as bytes_of;
-use crate::words::decimal;
-use crate::words::place_among;
-use crate::words::word;
+use crate::words::number;
+use crate::words::part;
 use crate::words::write_bytes;
 use maker::Made;
 
-// Answers a command of this family, up to the end of the line, or says that the line is none.
-pub(crate) fn obey(name: &[u8], words: &[u8]) -> bool {
-    match place_among(name, b"make judge") {
-        0 => make(words),
-        1 => judge(words),
-        _ => false,
-    }
-}
-
 // What the maker answered: its number, and the place of a value too large.
 fn write_made(made: Made) {
-    match made {
-        Made::Taken => {
-            io::write_all(1, b"0 -");
-        }
-        Made::WrongLength => {
-            io::write_all(1, b"1 -");
-        }
+    let number = match made {
+        Made::Taken => 0,
+        Made::WrongLength => 1,
         Made::TooLarge(place) => {
             io::write_all(1, b"2 ");
             io::print_decimal(1, place as u64);
+            return;
         }
-        Made::NoRoom => {
-            io::write_all(1, b"4 -");
-        }
-    }
+        Made::NoRoom => 4,
+    };
+    io::print_decimal(1, number);
+    io::write_all(1, b" -");
 }
 
 // `make VALUES ROOM`: NUMBER PLACE OUTPUT. The output's bytes are ee before the call, so that untouched ones show.
-fn make(words: &[u8]) -> bool {
+pub(crate) fn make(words: &[u8]) -> bool {
+    let mut good = true;
     let mut given = [0u8; MOST];
-    let count = bytes_of(word(words, 0), &mut given);
-    let room = decimal(after(words, 1));
-    if count == NONE || room > MOST {
+    let count = bytes_of(part(words, b' ', 0), &mut given);
+    let room = number(after(words, b' ', 1), 64, &mut good) as usize;
+    if count > MOST || !good {
+        return false;
+    }
+    if room > MOST {
         return false;
     }
     let mut lent = [0xeeu8; MOST];
-    let made = block::make(first(&given, count), first_mut(&mut lent, room));
-    write_made(made);
-    write_bytes(b" ", first(&lent, room));
+    let output = &mut lent[0..room];
+    write_made(block::make(&given[0..count], output));
+    write_bytes(b' ', output);
     true
 }
 
 // The reader's number and verdict. A block that was taken is mended where a bit is named.
 fn write_verdict(said: u8, bit: u8) {
-    if said == 0 && bit == 255 {
-        io::write_all(1, b"0 clean");
-    } else if said == 0 {
-        io::write_all(1, b"0 mended");
-    } else if said == 3 {
-        io::write_all(1, b"3 repeat");
-    } else {
-        io::print_decimal(1, said as u64);
-        io::write_all(1, b" -");
-    }
+    let place = match said {
+        0 => { if bit == 255 { 0 } else { 1 } }
+        3 => 2,
+        _ => 3,
+    };
+    io::print_decimal(1, said as u64);
+    io::write_all(1, part(b" clean, mended, repeat, -", b',', place));
 }
 
-// `judge BLOCK`: NUMBER VERDICT BLOCK PART. The part lies in the lent block, so it is copied while it lives, and the
+// Judges a lent block: NUMBER VERDICT BLOCK PART. The part lies in the block, so it is copied while it lives, and the
 // block itself is read once it is back. `said` begins as no number of the paper, so that one left unsaid shows.
-fn judge(word: &[u8]) -> bool {
-    let mut lent = [0u8; MOST];
-    let n = bytes_of(word, &mut lent);
-    if n == NONE {
-        return false;
-    }
+fn write_judged(block: &mut [u8]) {
     let mut said: u8 = 255;
     let mut bit: u8 = 0;
     let mut kept = [0u8; MOST];
-    let part = block::judge(first_mut(&mut lent, n), &mut said, &mut bit);
-    let k = copy(part, &mut kept);
+    let part = block::judge(block, &mut said, &mut bit);
+    let k = append(part, &mut kept, 0);
     write_verdict(said, bit);
-    write_bytes(b" ", first(&lent, n));
-    write_bytes(b" ", first(&kept, k));
+    write_bytes(b' ', block);
+    write_bytes(b' ', first(&kept, k));
+}
+
+// `judge BLOCK`.
+pub(crate) fn judge(word: &[u8]) -> bool {
+    let mut lent = [0u8; MOST];
+    let n = bytes_of(word, &mut lent);
+    if n > MOST {
+        return false;
+    }
+    write_judged(&mut lent[0..n]);
     true
 }

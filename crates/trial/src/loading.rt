@@ -1,57 +1,22 @@
-// The words that name a screen's state: its cells, and all the rest of it.
-use crate::parts::first;
+// The words that name a screen's state: its cells, and all the rest of it. A word that names none makes `good` false.
 use crate::showing::SEQUENCES;
-use crate::words::DASH;
-use crate::words::NONE;
 use crate::words::after;
-use crate::words::bytes as bytes_of;
-use crate::words::decimal;
+use crate::words::byte;
 use crate::words::digit;
+use crate::words::field;
 use crate::words::is;
-use crate::words::numbers;
+use crate::words::is_dash;
+use crate::words::number;
+use crate::words::part;
 use crate::words::place_among;
-use crate::words::word;
 use attributes::Attributes;
 use attributes::Waiting;
-use bytes::scan::find;
 use cells::Cell;
 use cursor::Place;
 use pen::Kept;
 use pen::Last;
 use pen::Pen;
 use sequences::Sequence;
-
-// The character that ends each number of CUR and ATTR.
-const NOW_ENDS: [u8; 9] = *b",, ,,,,, ";
-
-// The largest that it may be.
-const NOW_MOST: [usize; 9] = [255, 255, 1, 255, 255, 255, DASH, 1, 1];
-
-// The same of KEPT.
-const KEPT_ENDS: [u8; 8] = *b",,,,,,, ";
-
-const KEPT_MOST: [usize; 8] = [255, 255, 255, 255, 255, DASH, 1, 1];
-
-// What words name, where they name something.
-pub(crate) enum Given {
-    Nothing,
-    There(Pen),
-}
-
-enum GivenLast {
-    Nothing,
-    There(Last),
-}
-
-enum GivenKept {
-    Nothing,
-    There(Kept),
-}
-
-enum GivenSequence {
-    Nothing,
-    There(Sequence),
-}
 
 // Whether a word names the thousand cells: seven digits each, of which the last two are 0 or 1.
 pub(crate) fn are_cells(word: &[u8]) -> bool {
@@ -60,7 +25,7 @@ pub(crate) fn are_cells(word: &[u8]) -> bool {
     }
     let mut i = 0;
     while i < word.len() {
-        let d = digit(word[i]);
+        let d = digit(word, i);
         if d > 15 || i % 7 > 4 && d > 1 {
             return false;
         }
@@ -71,16 +36,13 @@ pub(crate) fn are_cells(word: &[u8]) -> bool {
 
 // The cell that seven digits name.
 fn cell_of(seven: &[u8]) -> Cell {
-    if seven.len() < 7 {
-        return cells::blank();
-    }
     Cell {
-        set: digit(seven[0]),
-        code: digit(seven[1]) % 16 * 16 + digit(seven[2]) % 16,
-        ink: digit(seven[3]),
-        ground: digit(seven[4]),
-        flash: digit(seven[5]) == 1,
-        inverse: digit(seven[6]) == 1,
+        set: digit(seven, 0),
+        code: digit(seven, 1) % 16 * 16 + digit(seven, 2) % 16,
+        ink: digit(seven, 3),
+        ground: digit(seven, 4),
+        flash: digit(seven, 5) == 1,
+        inverse: digit(seven, 6) == 1,
     }
 }
 
@@ -101,108 +63,84 @@ pub(crate) fn cells_of(word: &[u8]) -> [Cell; 1000] {
     cells
 }
 
-// `-`, or SET:CODE.
-fn last_of(word: &[u8]) -> GivenLast {
-    if is(word, b"-") {
-        return GivenLast::There(Last::Never);
+// ROW,COLUMN and whatever follows.
+fn place_of(numbers: &[u8], good: &mut bool) -> Place {
+    Place {
+        row: field(numbers, b',', 0, 255, good),
+        column: field(numbers, b',', 1, 255, good),
     }
-    let n = word.len();
-    let e = find(word, 0, n, b':');
-    let mut code = [0u8; 1];
-    if e < n && bytes_of(&word[e + 1..], &mut code) == 1 {
-        let set = decimal(first(word, e));
-        if set < 256 {
-            return GivenLast::There(Last::Character {
-                set: set as u8,
-                code: code[0],
-            });
-        }
-    }
-    GivenLast::Nothing
 }
 
-fn sequence_of(name: &[u8]) -> GivenSequence {
-    let mut code = [0u8; 1];
-    if name.len() == 5 && is(first(name, 3), b"us:") && bytes_of(&name[3..], &mut code) == 1 {
-        return GivenSequence::There(Sequence::Row(code[0]));
+// `-`, or a colour.
+fn waiting_of(word: &[u8], good: &mut bool) -> Waiting {
+    if is_dash(word) {
+        return Waiting::Nothing;
+    }
+    Waiting::Ground(number(word, 255, good))
+}
+
+// SET,INK,GROUND,WAITING,FLASH,INVERSE.
+fn attributes_of(numbers: &[u8], good: &mut bool) -> Attributes {
+    Attributes {
+        set: field(numbers, b',', 0, 255, good),
+        ink: field(numbers, b',', 1, 255, good),
+        ground: field(numbers, b',', 2, 255, good),
+        waiting: waiting_of(part(numbers, b',', 3), good),
+        flash: field(numbers, b',', 4, 1, good) == 1,
+        inverse: number(after(numbers, b',', 5), 1, good) == 1,
+    }
+}
+
+// `-`, or SET:CODE.
+fn last_of(word: &[u8], good: &mut bool) -> Last {
+    if is_dash(word) {
+        return Last::Never;
+    }
+    Last::Character {
+        set: field(word, b':', 0, 255, good),
+        code: byte(after(word, b':', 1), good),
+    }
+}
+
+// The name of a sequence, or `us:CODE`.
+fn sequence_of(name: &[u8], good: &mut bool) -> Sequence {
+    let code = after(name, b':', 1);
+    if code.len() > 0 && is(part(name, b':', 0), b"us") {
+        return Sequence::Row(byte(code, good));
     }
     match place_among(name, &SEQUENCES) {
-        0 => GivenSequence::There(Sequence::Free),
-        1 => GivenSequence::There(Sequence::Escape),
-        2 => GivenSequence::There(Sequence::Long),
-        3 => GivenSequence::There(Sequence::Control),
-        4 => GivenSequence::There(Sequence::Address),
-        5 => GivenSequence::There(Sequence::Repeat),
-        6 => GivenSequence::There(Sequence::Single),
-        7 => GivenSequence::There(Sequence::Separator),
-        _ => GivenSequence::Nothing,
+        0 => Sequence::Free,
+        1 => Sequence::Escape,
+        2 => Sequence::Long,
+        3 => Sequence::Control,
+        4 => Sequence::Address,
+        5 => Sequence::Repeat,
+        6 => Sequence::Single,
+        7 => Sequence::Separator,
+        _ => {
+            *good = false;
+            Sequence::Free
+        }
     }
 }
 
-// The attributes of numbers that have passed the test of their word.
-fn attributes_of(
-    set: usize,
-    ink: usize,
-    ground: usize,
-    waiting: usize,
-    flash: usize,
-    inverse: usize,
-) -> Attributes {
-    let named = if waiting == DASH {
-        Waiting::Nothing
-    } else {
-        Waiting::Ground((waiting % 256) as u8)
-    };
-    Attributes {
-        set: (set % 256) as u8,
-        ink: (ink % 256) as u8,
-        ground: (ground % 256) as u8,
-        waiting: named,
-        flash: flash == 1,
-        inverse: inverse == 1,
+// ROW,COLUMN and then as attributes are.
+fn kept_of(numbers: &[u8], good: &mut bool) -> Kept {
+    Kept {
+        place: place_of(numbers, good),
+        attributes: attributes_of(after(numbers, b',', 2), good),
     }
-}
-
-fn place_of(row: usize, column: usize) -> Place {
-    Place {
-        row: (row % 256) as u8,
-        column: (column % 256) as u8,
-    }
-}
-
-// KEPT, from which the words go on.
-fn kept_of(words: &[u8]) -> GivenKept {
-    let mut n = [0usize; 8];
-    if numbers(words, &KEPT_ENDS, &KEPT_MOST, &mut n) == NONE {
-        return GivenKept::Nothing;
-    }
-    GivenKept::There(Kept {
-        place: place_of(n[0], n[1]),
-        attributes: attributes_of(n[2], n[3], n[4], n[5], n[6], n[7]),
-    })
 }
 
 // CUR ATTR LAST KEPT PEND.
-pub(crate) fn pen_of(words: &[u8]) -> Given {
-    let mut n = [0usize; 9];
-    if numbers(words, &NOW_ENDS, &NOW_MOST, &mut n) == NONE {
-        return Given::Nothing;
+pub(crate) fn pen_of(words: &[u8], good: &mut bool) -> Pen {
+    let cursor = part(words, b' ', 0);
+    Pen {
+        place: place_of(cursor, good),
+        attributes: attributes_of(part(words, b' ', 1), good),
+        kept: kept_of(part(words, b' ', 3), good),
+        last: last_of(part(words, b' ', 2), good),
+        sequence: sequence_of(after(words, b' ', 4), good),
+        shown: number(after(cursor, b',', 2), 1, good) == 1,
     }
-    let GivenLast::There(last) = last_of(word(words, 2)) else {
-        return Given::Nothing;
-    };
-    let GivenKept::There(kept) = kept_of(after(words, 3)) else {
-        return Given::Nothing;
-    };
-    let GivenSequence::There(sequence) = sequence_of(after(words, 4)) else {
-        return Given::Nothing;
-    };
-    Given::There(Pen {
-        place: place_of(n[0], n[1]),
-        attributes: attributes_of(n[3], n[4], n[5], n[6], n[7], n[8]),
-        kept,
-        last,
-        sequence,
-        shown: n[2] == 1,
-    })
 }

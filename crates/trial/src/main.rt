@@ -2,8 +2,8 @@
 // format of docs/TRIAL.md. With file names as arguments it runs those scripts in turn, each from the start state; with
 // none it reads standard input.
 //
-// lines.rt      a script cut into lines, and each line answered
-// words.rt      the bytes and numbers that words name
+// lines.rt      a script cut into lines
+// words.rt      the parts of a text, and the bytes and numbers that words name
 // parts.rt      parts of lent memory
 // blocks.rt     the commands of the block code
 // receiving.rt  the commands of the line receiver
@@ -21,41 +21,76 @@ mod words;
 
 use lines::At;
 use lines::LONGEST;
+use parts::first;
 use receiver::Receiver;
 use screen::Screen;
+use words::NONE;
+use words::after;
+use words::part;
+use words::place_among;
 
-// Runs one script to its end, or until an answer cannot be written. `name` is for error lines.
+// Whether a line gets an answer: an empty one and a remark do not, however long.
+fn is_answered(line: &[u8], length: usize) -> bool {
+    if length > 0 && line.len() > 0 {
+        return line[0] != b'#';
+    }
+    false
+}
+
+// Which family's command a line is, by its first word; a line that is too long is no command.
+fn family(line: &[u8], length: usize) -> usize {
+    if length > LONGEST {
+        return NONE;
+    }
+    place_among(part(line, b' ', 0), b"make judge rx scr")
+}
+
+// Ends the answer to a line, which is `? NUMBER` where it is no command; false where it could not be written.
+fn end(known: bool, number: u64) -> bool {
+    if !known {
+        io::write_all(1, b"? ");
+        io::print_decimal(1, number);
+    }
+    if io::write_all(1, b"\n") {
+        return true;
+    }
+    os::fail(b"standard output");
+    false
+}
+
+// Runs one script to its end, or until an answer cannot be written. `name` is for error lines. The receiver and the
+// screen are held here alone, and handed on for their own commands; no script has more lines than a u64 counts.
 fn run(fd: i32, name: &[u8]) {
-    let mut line = [0u8; LONGEST];
-    let mut at = At {
-        length: 0,
-        number: 1,
-        stopped: false,
-        receiver: Receiver::new(),
-        screen: Screen::fresh(),
-    };
     let mut portion = io::large_buffer();
-    let mut turns = u64::MAX;
-    while turns > 0 {
-        let got = libc::read(fd, &mut portion);
-        if got < 0 {
-            os::fail(name);
-            return;
-        }
-        if got == 0 {
-            at = lines::end(at, &line);
-            if at.stopped {
-                os::fail(b"standard output");
+    let mut line = [0u8; LONGEST];
+    let mut receiver = Receiver::new();
+    let mut screen = Screen::fresh();
+    let mut at = At {
+        from: 0,
+        to: 0,
+        length: 0,
+        whole: false,
+        ended: false,
+    };
+    let mut number = 1;
+    while number < u64::MAX && !at.ended {
+        at = lines::cut(fd, name, at, &mut portion, &mut line);
+        if is_answered(&line, at.length) {
+            let command = first(&line, at.length);
+            let words = after(command, b' ', 1);
+            let mut known = true;
+            match family(command, at.length) {
+                0 => known = blocks::make(words),
+                1 => known = blocks::judge(words),
+                2 => receiver = receiving::obey(words, receiver, &mut known),
+                3 => screen = screening::obey(words, screen, &mut known),
+                _ => known = false,
             }
-            return;
+            if !end(known, number) {
+                at.ended = true;
+            }
         }
-        let n = io::count(got, &portion);
-        at = lines::feed(at, &portion[..n], &mut line);
-        if at.stopped {
-            os::fail(b"standard output");
-            return;
-        }
-        turns -= 1;
+        number += 1;
     }
 }
 
@@ -67,13 +102,14 @@ fn run_file(i: usize) {
         os::fail(b"the name of a script");
         return;
     }
-    let fd = os::open_read(&path[..length]);
+    let name = &path[0..length];
+    let fd = os::open_read(name);
     if fd < 0 {
-        os::fail(&path[..length]);
-        return;
+        os::fail(name);
+    } else {
+        run(fd, name);
+        libc::close(fd);
     }
-    run(fd, &path[..length]);
-    libc::close(fd);
 }
 
 // Runs the scripts that the arguments name, or standard input where there are none.

@@ -1,18 +1,22 @@
 // The commands of the screen: `scr fresh`, `scr byte HH`, `scr run VALUES`, `scr dump`, `scr cell ROW COLUMN` and
 // `scr load CELLS CUR ATTR LAST KEPT PEND`. loading.rt reads the words of a state, and showing.rt writes them.
-use crate::loading::Given;
+//
+// A screen is large, and a proof pays for each that a function holds: so words are read without one, and what acts on
+// one is small.
 use crate::loading::are_cells;
 use crate::loading::cells_of;
 use crate::loading::pen_of;
 use crate::parts::first;
-use crate::showing::write_cell;
+use crate::showing::spelled;
 use crate::showing::write_cells;
 use crate::showing::write_pen;
 use crate::words::after;
+use crate::words::byte;
 use crate::words::bytes as bytes_of;
-use crate::words::decimal;
+use crate::words::field;
+use crate::words::number;
+use crate::words::part;
 use crate::words::place_among;
-use crate::words::word;
 use screen::Answer;
 use screen::Read;
 use screen::Screen;
@@ -20,63 +24,125 @@ use screen::Screen;
 // As many values as a run may have.
 const LONGEST_RUN: usize = 4000;
 
-// Whether a line was a command of this family, and the screen after it.
-pub(crate) struct Obeyed {
-    pub(crate) known: bool,
-    pub(crate) screen: Screen,
+// What words ask of the screen.
+enum Wish {
+    // They are no command.
+    Nothing,
+    Fresh,
+    Dump,
+    Byte(u8),
+    Run,
+    Cell { row: u8, column: u8 },
+    Load,
 }
 
-// Answers a command of this family, from its second word on and up to the end of the line, or says that it is none.
-pub(crate) fn obey(command: &[u8], now: Screen) -> Obeyed {
-    match place_among(command, b"fresh dump") {
-        0 => tell(Answer::Taken, false, Screen::fresh()),
+// Reads a command, from its second word on; what is long in it is read where it is taken. After `fresh` and `dump`
+// nothing may stand, so they are known by their length too.
+fn wish_of(words: &[u8], known: &mut bool) -> Wish {
+    let given = after(words, b' ', 1);
+    let wish = match place_among(part(words, b' ', 0), b"fresh dump byte run cell load") {
+        0 => {
+            *known = words.len() == 5;
+            Wish::Fresh
+        }
         1 => {
+            *known = words.len() == 4;
+            Wish::Dump
+        }
+        2 => Wish::Byte(byte(given, known)),
+        3 => Wish::Run,
+        4 => Wish::Cell {
+            row: field(given, b' ', 0, 255, known),
+            column: number(after(given, b' ', 1), 255, known),
+        },
+        5 => Wish::Load,
+        _ => {
+            *known = false;
+            Wish::Nothing
+        }
+    };
+    if *known { wish } else { Wish::Nothing }
+}
+
+// Answers a command of this family, from its second word on and up to the end of the line: the screen after it. Words
+// that are no command leave it as it is, and are not `known`.
+pub(crate) fn obey(words: &[u8], now: Screen, known: &mut bool) -> Screen {
+    let wish = wish_of(words, known);
+    match wish {
+        Wish::Nothing => now,
+        Wish::Fresh => put(Screen::fresh()),
+        Wish::Dump => {
             let cells = now.cells;
             write_cells(cells);
-            Obeyed {
-                known: true,
-                screen: now,
-            }
+            now
         }
-        _ => obey_words(word(command, 0), after(command, 1), now),
+        Wish::Byte(value) => take(now, value),
+        Wish::Run => take_all(after(words, b' ', 1), now, known),
+        Wish::Cell { row, column } => {
+            write_read(now.cell(row, column));
+            now
+        }
+        Wish::Load => load(after(words, b' ', 1), now, known),
     }
 }
 
-// The commands with arguments.
-fn obey_words(name: &[u8], words: &[u8], now: Screen) -> Obeyed {
-    match place_among(name, b"byte run load cell") {
-        0 => take(words, now),
-        1 => take_all(words, now),
-        2 => load(words, now),
-        3 => Obeyed {
-            known: read(words, now),
-            screen: now,
-        },
-        _ => Obeyed {
-            known: false,
-            screen: now,
-        },
-    }
+// A state that no call made.
+fn put(state: Screen) -> Screen {
+    io::write_all(1, b"0");
+    write_pen(state.pen);
+    state
 }
 
-// What a call answered: its number, for a run the place of a value too large, and the state after it.
-fn tell(answer: Answer, is_run: bool, screen: Screen) -> Obeyed {
+// `byte HH`.
+fn take(now: Screen, value: u8) -> Screen {
+    let done = now.step(value);
+    let answer = done.answer;
+    let next = done.screen;
+    write_answer(answer);
+    write_pen(next.pen);
+    next
+}
+
+// `run VALUES`, from its values on.
+fn take_all(word: &[u8], now: Screen, known: &mut bool) -> Screen {
+    let mut values = [0u8; LONGEST_RUN];
+    let n = bytes_of(word, &mut values);
+    if n > LONGEST_RUN {
+        *known = false;
+        return now;
+    }
+    let done = now.run(first(&values, n));
+    let answer = done.answer;
+    let next = done.screen;
+    write_answer(answer);
+    write_place(answer);
+    write_pen(next.pen);
+    next
+}
+
+// `load CELLS CUR ATTR LAST KEPT PEND`, from its cells on.
+fn load(words: &[u8], now: Screen, known: &mut bool) -> Screen {
+    let word = part(words, b' ', 0);
+    *known = are_cells(word);
+    let pen = pen_of(after(words, b' ', 1), known);
+    if *known {
+        let cells = cells_of(word);
+        return put(Screen { cells, pen });
+    }
+    now
+}
+
+// The number that a call answered.
+fn write_answer(answer: Answer) {
     let number = match answer {
         Answer::Taken => 0,
         Answer::TooLarge(_) => 2,
         Answer::Broken => 5,
     };
     io::print_decimal(1, number);
-    if is_run {
-        write_place(answer);
-    }
-    write_pen(screen.pen);
-    Obeyed {
-        known: true,
-        screen,
-    }
 }
 
+// For a run, the place of a value too large.
 fn write_place(answer: Answer) {
     if let Answer::TooLarge(place) = answer {
         io::write_all(1, b" ");
@@ -86,69 +152,13 @@ fn write_place(answer: Answer) {
     }
 }
 
-// `scr byte HH`.
-fn take(word: &[u8], now: Screen) -> Obeyed {
-    let mut value = [0u8; 1];
-    if bytes_of(word, &mut value) == 1 {
-        let done = now.step(value[0]);
-        let answer = done.answer;
-        return tell(answer, false, done.screen);
-    }
-    Obeyed {
-        known: false,
-        screen: now,
-    }
-}
-
-// `scr run VALUES`.
-fn take_all(word: &[u8], now: Screen) -> Obeyed {
-    let mut values = [0u8; LONGEST_RUN];
-    let n = bytes_of(word, &mut values);
-    if n <= LONGEST_RUN {
-        let done = now.run(first(&values, n));
-        let answer = done.answer;
-        return tell(answer, true, done.screen);
-    }
-    Obeyed {
-        known: false,
-        screen: now,
-    }
-}
-
-// `scr load CELLS CUR ATTR LAST KEPT PEND`, from its cells on.
-fn load(words: &[u8], now: Screen) -> Obeyed {
-    let cells = word(words, 0);
-    let given = pen_of(after(words, 1));
-    match given {
-        Given::There(pen) => {
-            if are_cells(cells) {
-                let screen = Screen {
-                    cells: cells_of(cells),
-                    pen,
-                };
-                return tell(Answer::Taken, false, screen);
-            }
-        }
-        Given::Nothing => {}
-    }
-    Obeyed {
-        known: false,
-        screen: now,
-    }
-}
-
-// `scr cell ROW COLUMN`, from its row on; false where there are no such words.
-fn read(words: &[u8], now: Screen) -> bool {
-    let row = decimal(word(words, 0));
-    let column = decimal(after(words, 1));
-    if row > 255 || column > 255 {
-        return false;
-    }
-    let found = now.cell(row as u8, column as u8);
+// What reading a cell gave.
+fn write_read(found: Read) {
     match found {
         Read::There(cell) => {
+            let text = spelled(cell);
             io::write_all(1, b"0 ");
-            write_cell(cell);
+            io::write_all(1, &text);
         }
         Read::Off => {
             io::write_all(1, b"0 off");
@@ -157,5 +167,4 @@ fn read(words: &[u8], now: Screen) -> bool {
             io::write_all(1, b"5 -");
         }
     }
-    true
 }

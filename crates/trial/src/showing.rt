@@ -1,8 +1,9 @@
 // A screen's state as words of an answer: its cells, and all the rest of it.
 use crate::parts::append;
-use crate::words::DIGITS;
-use crate::words::word;
+use crate::words::letter;
+use crate::words::part;
 use crate::words::write_bytes;
+use crate::words::write_number;
 use attributes::Attributes;
 use attributes::Waiting;
 use cells::Cell;
@@ -14,21 +15,16 @@ use sequences::Sequence;
 pub(crate) const SEQUENCES: [u8; 29] = *b"- esc esc2 csi us rep ss2 sep";
 
 // The seven digits of a cell.
-fn spelled(cell: Cell) -> [u8; 7] {
+pub(crate) fn spelled(cell: Cell) -> [u8; 7] {
     [
-        DIGITS[(cell.set % 16) as usize],
-        DIGITS[(cell.code / 16 % 16) as usize],
-        DIGITS[(cell.code % 16) as usize],
-        DIGITS[(cell.ink % 16) as usize],
-        DIGITS[(cell.ground % 16) as usize],
-        DIGITS[(cell.flash as u8 % 16) as usize],
-        DIGITS[(cell.inverse as u8 % 16) as usize],
+        letter(cell.set),
+        letter(cell.code / 16),
+        letter(cell.code % 16),
+        letter(cell.ink),
+        letter(cell.ground),
+        letter(cell.flash as u8),
+        letter(cell.inverse as u8),
     ]
-}
-
-pub(crate) fn write_cell(cell: Cell) {
-    let text = spelled(cell);
-    io::write_all(1, &text);
 }
 
 // All the cells, with nothing between them.
@@ -44,42 +40,33 @@ pub(crate) fn write_cells(cells: [Cell; 1000]) {
     io::write_all(1, &text);
 }
 
-// What stands before them, and numbers with a comma between each two.
-fn write_list(before: &[u8], numbers: &[u8]) {
-    io::write_all(1, before);
-    let mut i = 0;
-    while i < numbers.len() {
-        let number = numbers[i] as u64;
-        if i > 0 {
-            io::write_all(1, b",");
-        }
-        io::print_decimal(1, number);
-        i += 1;
-    }
-}
-
-fn write_attributes(before: &[u8], a: Attributes) {
-    write_list(before, &[a.set, a.ink, a.ground]);
+// Attributes as numbers, with this mark before the first.
+fn write_attributes(mark: u8, a: Attributes) {
+    write_number(mark, a.set);
+    write_number(b',', a.ink);
+    write_number(b',', a.ground);
     let waiting = a.waiting;
     match waiting {
         Waiting::Nothing => {
             io::write_all(1, b",-");
         }
         Waiting::Ground(colour) => {
-            write_list(b",", &[colour]);
+            write_number(b',', colour);
         }
     }
-    write_list(b",", &[a.flash as u8, a.inverse as u8]);
+    write_number(b',', a.flash as u8);
+    write_number(b',', a.inverse as u8);
 }
 
 fn write_last(last: Last) {
+    io::write_all(1, b" last=");
     match last {
         Last::Never => {
-            io::write_all(1, b" last=-");
+            io::write_all(1, b"-");
         }
         Last::Character { set, code } => {
-            write_list(b" last=", &[set]);
-            write_bytes(b":", &[code]);
+            io::print_decimal(1, set as u64);
+            write_bytes(b':', &[code]);
         }
     }
 }
@@ -90,30 +77,33 @@ fn write_sequence(sequence: Sequence) {
         Sequence::Escape => 1,
         Sequence::Long => 2,
         Sequence::Control => 3,
-        Sequence::Address => 4,
+        Sequence::Address | Sequence::Row(_) => 4,
         Sequence::Repeat => 5,
         Sequence::Single => 6,
         Sequence::Separator => 7,
-        Sequence::Row(code) => {
-            write_bytes(b" pend=us:", &[code]);
-            return;
-        }
     };
     io::write_all(1, b" pend=");
-    io::write_all(1, word(&SEQUENCES, place));
+    io::write_all(1, part(&SEQUENCES, b' ', place));
+    if let Sequence::Row(code) = sequence {
+        write_bytes(b':', &[code]);
+    }
 }
 
 // All of a state but its cells.
 pub(crate) fn write_pen(pen: Pen) {
-    let place = pen.place;
     let kept = pen.kept;
-    let old = kept.place;
     let last = pen.last;
     let sequence = pen.sequence;
-    write_list(b" cur=", &[place.row, place.column, pen.shown as u8]);
-    write_attributes(b" attr=", pen.attributes);
+    io::write_all(1, b" cur");
+    write_number(b'=', pen.place.row);
+    write_number(b',', pen.place.column);
+    write_number(b',', pen.shown as u8);
+    io::write_all(1, b" attr");
+    write_attributes(b'=', pen.attributes);
     write_last(last);
-    write_list(b" kept=", &[old.row, old.column]);
-    write_attributes(b",", kept.attributes);
+    io::write_all(1, b" kept");
+    write_number(b'=', kept.place.row);
+    write_number(b',', kept.place.column);
+    write_attributes(b',', kept.attributes);
     write_sequence(sequence);
 }

@@ -1,8 +1,12 @@
-// The bytes and numbers that words name, and bytes as a word.
+// The parts of a text, the bytes and numbers that its words name, and bytes and numbers as words.
+//
+// Whoever has a word read lends `good`, which a word that names nothing of its kind makes false. So several words are
+// read one after the other, and the question is put once.
+use crate::parts::append;
 use crate::parts::first;
 use bytes::scan::find;
 
-// As many bytes as a word may name.
+// As many bytes as a word of a block command may name, and any word of an answer but for all the cells.
 pub(crate) const MOST: usize = 64;
 
 // What is answered where a word names nothing: above every count and number, so that whoever tests for a largest one
@@ -24,8 +28,53 @@ pub(crate) fn is(word: &[u8], name: &[u8]) -> bool {
     true
 }
 
-// What a lower-case hex digit is worth; 16 for any other character.
-pub(crate) fn digit(c: u8) -> u8 {
+// Whether a word is `-`, which stands for none.
+pub(crate) fn is_dash(word: &[u8]) -> bool {
+    is(word, b"-")
+}
+
+// What stands after so many marks; nothing where there are fewer.
+pub(crate) fn after(text: &[u8], mark: u8, marks: usize) -> &[u8] {
+    let n = text.len();
+    let mut at = 0;
+    let mut i = 0;
+    while i < marks {
+        let e = find(text, at, n, mark);
+        if e == n {
+            return &text[n..];
+        }
+        at = e + 1;
+        i += 1;
+    }
+    &text[at..]
+}
+
+// The part after so many marks, up to the next.
+pub(crate) fn part(text: &[u8], mark: u8, marks: usize) -> &[u8] {
+    let rest = after(text, mark, marks);
+    let n = rest.len();
+    let e = find(rest, 0, n, mark);
+    first(rest, e)
+}
+
+// How many words stand before a name among names; as many as there are, or more, where it is none of them.
+pub(crate) fn place_among(name: &[u8], names: &[u8]) -> usize {
+    let mut i = 0;
+    while i < names.len() {
+        if is(name, part(names, b' ', i)) {
+            return i;
+        }
+        i += 1;
+    }
+    NONE
+}
+
+// What the lower-case hex digit at a place is worth; 16 for any other character, and where there is none.
+pub(crate) fn digit(word: &[u8], at: usize) -> u8 {
+    if at >= word.len() {
+        return 16;
+    }
+    let c = word[at];
     match c {
         b'0'..=b'9' => c - b'0',
         b'a'..=b'f' => c - b'a' + 10,
@@ -36,44 +85,44 @@ pub(crate) fn digit(c: u8) -> u8 {
 // Puts the bytes that a word names at the start of `out`: how many they are, or NONE where it names none, or more than
 // fit.
 pub(crate) fn bytes(word: &[u8], out: &mut [u8]) -> usize {
-    if is(word, b"-") {
+    if is_dash(word) {
         return 0;
     }
     let n = word.len() / 2;
-    if n == 0 || word.len() % 2 != 0 {
-        return NONE;
-    }
-    if n > out.len() {
-        return NONE;
-    }
     let mut i = 0;
-    while i < n {
-        let high = digit(word[2 * i]);
-        let low = digit(word[2 * i + 1]);
-        if high > 15 {
+    while i < n && i < out.len() {
+        let high = digit(word, 2 * i);
+        let low = digit(word, 2 * i + 1);
+        if high > 15 || low > 15 {
             return NONE;
         }
-        if low > 15 {
-            return NONE;
-        }
-        out[i] = high * 16 + low;
+        out[i] = high % 16 * 16 + low % 16;
         i += 1;
     }
-    n
+    if i == 0 || i < n || word.len() % 2 != 0 {
+        return NONE;
+    }
+    i
+}
+
+// The one byte that a word names.
+pub(crate) fn byte(word: &[u8], good: &mut bool) -> u8 {
+    let mut one = [0u8; 1];
+    if bytes(word, &mut one) != 1 {
+        *good = false;
+    }
+    one[0]
 }
 
 // The decimal number that a word names, or NONE where it names none, or one above 255: the format has no larger.
-pub(crate) fn decimal(word: &[u8]) -> usize {
-    if word.len() == 0 {
-        return NONE;
-    }
-    if word.len() > 1 && word[0] == b'0' {
+fn decimal(word: &[u8]) -> usize {
+    if word.len() == 0 || word.len() > 1 && digit(word, 0) == 0 {
         return NONE;
     }
     let mut number = 0;
     let mut i = 0;
     while i < word.len() {
-        let d = digit(word[i]);
+        let d = digit(word, i);
         if d > 9 {
             return NONE;
         }
@@ -86,95 +135,53 @@ pub(crate) fn decimal(word: &[u8]) -> usize {
     number
 }
 
-// What stands for `-` among numbers.
-pub(crate) const DASH: usize = 256;
-
-// The number that a word names, or DASH where it is `-`.
-fn decimal_or_dash(word: &[u8]) -> usize {
-    if is(word, b"-") {
-        return DASH;
+// The same where it is at most `most`.
+pub(crate) fn number(word: &[u8], most: u8, good: &mut bool) -> u8 {
+    let n = decimal(word);
+    if n > most as usize {
+        *good = false;
+        return 0;
     }
-    decimal(word)
+    n as u8
 }
 
-// Puts the numbers that words name in `out`: each is at most its `most`, where `-` counts as DASH, and goes up to the
-// character that is its end, or to the end of the words. Where the rest begins, or NONE where one of them is no such
-// number.
-pub(crate) fn numbers(words: &[u8], ends: &[u8], most: &[usize], out: &mut [usize]) -> usize {
-    let n = words.len();
-    let mut at = 0;
-    let mut i = 0;
-    while i < most.len() && i < ends.len() && i < out.len() {
-        if at > n {
-            return NONE;
-        }
-        let e = find(words, at, n, ends[i]);
-        let number = decimal_or_dash(&words[at..e]);
-        if number > most[i] {
-            return NONE;
-        }
-        out[i] = number;
-        at = e + 1;
-        i += 1;
-    }
-    at
+// The same in the part after so many marks.
+pub(crate) fn field(text: &[u8], mark: u8, marks: usize, most: u8, good: &mut bool) -> u8 {
+    number(part(text, mark, marks), most, good)
 }
 
-// What stands after so many spaces; nothing where there are fewer.
-pub(crate) fn after(words: &[u8], spaces: usize) -> &[u8] {
-    let n = words.len();
-    let mut at = 0;
-    let mut i = 0;
-    while i < spaces {
-        let e = find(words, at, n, b' ');
-        if e == n {
-            return &words[n..];
-        }
-        at = e + 1;
-        i += 1;
+// The lower-case hex digit that is worth so much.
+pub(crate) fn letter(worth: u8) -> u8 {
+    if worth < 10 {
+        return b'0' + worth;
     }
-    &words[at..]
+    b'a' - 10 + worth % 16
 }
 
-// The word after so many spaces.
-pub(crate) fn word(words: &[u8], spaces: usize) -> &[u8] {
-    let rest = after(words, spaces);
-    let n = rest.len();
-    let e = find(rest, 0, n, b' ');
-    first(rest, e)
+// The two digits of a byte.
+fn pair(byte: u8) -> [u8; 2] {
+    [letter(byte / 16), letter(byte % 16)]
 }
 
-// How many words stand before a name among names; as many as there are, or more, where it is none of them.
-pub(crate) fn place_among(name: &[u8], names: &[u8]) -> usize {
-    let mut i = 0;
-    while i < names.len() {
-        if is(name, word(names, i)) {
-            return i;
-        }
-        i += 1;
-    }
-    NONE
-}
-
-pub(crate) const DIGITS: [u8; 16] = *b"0123456789abcdef";
-
-// Writes what stands before them, and bytes as a word, `-` for none; no answer has a word of more than MOST.
-pub(crate) fn write_bytes(before: &[u8], bytes: &[u8]) {
-    io::write_all(1, before);
-    if bytes.len() == 0 {
-        io::write_all(1, b"-");
-        return;
-    }
-    if bytes.len() > MOST {
-        return;
-    }
-    let mut text = [0u8; 2 * MOST];
+// Writes a mark, and bytes as a word after it, `-` for none; no answer has a word of more than MOST.
+pub(crate) fn write_bytes(mark: u8, bytes: &[u8]) {
+    let mut text = [mark; 1 + 2 * MOST];
+    text[1] = b'-';
+    let mut at = 1;
     let mut i = 0;
     while i < bytes.len() {
-        let at = 2 * i;
-        text[at] = DIGITS[(bytes[i] / 16 % 16) as usize];
-        text[at + 1] = DIGITS[(bytes[i] % 16) as usize];
+        let two = pair(bytes[i]);
+        at = append(&two, &mut text, at);
         i += 1;
     }
-    io::write_all(1, first(&text, 2 * i));
+    if i == 0 {
+        at = 2;
+    }
+    io::write_all(1, first(&text, at));
+}
+
+// Writes a mark and a number after it.
+pub(crate) fn write_number(mark: u8, n: u8) {
+    io::write_all(1, &[mark]);
+    io::print_decimal(1, n as u64);
 }

@@ -1,4 +1,5 @@
 -- `trial::run` is safe and ends. Assumes nothing.
+use Prim.Native.Nat.{_-_}
 use mathlib.Core.Path.{_≡_}
 use lib.ListN.{length}
 use borrow.Author.Needs.{needs}
@@ -6,11 +7,15 @@ use Rattle.trial.proofs.run.Statement.{statement}
 use Rattle.trial.proofs.run.Tie as tie
 
 abbrev Inv-loop : tie.InvT-loop
-Inv-loop fd name line₀ at₀ portion₀ turns₀ t9 t10 line at portion turns =
-    (length line ≡ 9000) × (length portion ≡ 65536)
+Inv-loop fd name portion₀ line₀ receiver₀ screen₀ at₀ number₀ portion line receiver screen at number =
+    (length portion ≡ 65536) × (length line ≡ 9000)
 
 abbrev μ-loop : tie.MeasureT-loop
-μ-loop fd name line₀ at₀ portion₀ turns₀ t9 t10 line at portion turns = turns
+μ-loop fd name portion₀ line₀ receiver₀ screen₀ at₀ number₀ portion line receiver screen at number =
+    18446744073709551615 - number
+
+large-buffer-requires : tie.Need-large-buffer-requires Inv-loop μ-loop
+large-buffer-requires c κs = search needs
 
 new-requires : tie.Need-new-requires Inv-loop μ-loop
 new-requires c κs = search needs
@@ -18,71 +23,53 @@ new-requires c κs = search needs
 fresh-requires : tie.Need-fresh-requires Inv-loop μ-loop
 fresh-requires c κs = search needs
 
-large-buffer-requires : tie.Need-large-buffer-requires Inv-loop μ-loop
-large-buffer-requires c κs = search needs
-
 loop-holds : tie.Need-loop-holds Inv-loop μ-loop
 loop-holds c = search needs
 
-slice-aggregate-read : tie.Need-slice-aggregate-read Inv-loop μ-loop
-slice-aggregate-read c = search needs
+slice-aggregate-cut : tie.Need-slice-aggregate-cut Inv-loop μ-loop
+slice-aggregate-cut c = search needs
 
-read-requires : tie.Need-read-requires Inv-loop μ-loop
-read-requires c κs = search needs
+slice-aggregate-cut-2 : tie.Need-slice-aggregate-cut-2 Inv-loop μ-loop
+slice-aggregate-cut-2 c = search needs
 
-fail-requires : tie.Need-fail-requires Inv-loop μ-loop
-fail-requires c κs = search needs
+cut-requires : tie.Need-cut-requires Inv-loop μ-loop
+cut-requires c κs = search needs
 
-returns : tie.Need-returns Inv-loop μ-loop
-returns c = search needs
+slice-aggregate-is-answered : tie.Need-slice-aggregate-is-answered Inv-loop μ-loop
+slice-aggregate-is-answered c = search needs
 
-slice-aggregate-end : tie.Need-slice-aggregate-end Inv-loop μ-loop
-slice-aggregate-end c = search needs
+is-answered-requires : tie.Need-is-answered-requires Inv-loop μ-loop
+is-answered-requires c κs = search needs
+
+slice-aggregate-first : tie.Need-slice-aggregate-first Inv-loop μ-loop
+slice-aggregate-first c = search needs
+
+first-requires : tie.Need-first-requires Inv-loop μ-loop
+first-requires c κs = search needs
+
+after-requires : tie.Need-after-requires Inv-loop μ-loop
+after-requires c κs = search needs
+
+family-requires : tie.Need-family-requires Inv-loop μ-loop
+family-requires c κs = search needs
+
+make-requires : tie.Need-make-requires Inv-loop μ-loop
+make-requires c κs = search needs
+
+judge-requires : tie.Need-judge-requires Inv-loop μ-loop
+judge-requires c κs = search needs
+
+obey-requires : tie.Need-obey-requires Inv-loop μ-loop
+obey-requires c κs = search needs
+
+obey-requires-2 : tie.Need-obey-requires-2 Inv-loop μ-loop
+obey-requires-2 c κs = search needs
 
 end-requires : tie.Need-end-requires Inv-loop μ-loop
 end-requires c κs = search needs
 
-slice-aggregate-fail : tie.Need-slice-aggregate-fail Inv-loop μ-loop
-slice-aggregate-fail c = search needs
-
-fail-requires-2 : tie.Need-fail-requires-2 Inv-loop μ-loop
-fail-requires-2 c κs = search needs
-
-returns-2 : tie.Need-returns-2 Inv-loop μ-loop
-returns-2 c = search needs
-
-returns-3 : tie.Need-returns-3 Inv-loop μ-loop
-returns-3 c = search needs
-
-slice-aggregate-count : tie.Need-slice-aggregate-count Inv-loop μ-loop
-slice-aggregate-count c = search needs
-
-count-requires : tie.Need-count-requires Inv-loop μ-loop
-count-requires c κs = search needs
-
-array-share-prefix-portion : tie.Need-array-share-prefix-portion Inv-loop μ-loop
-array-share-prefix-portion c = search needs
-
-slice-aggregate-feed : tie.Need-slice-aggregate-feed Inv-loop μ-loop
-slice-aggregate-feed c = search needs
-
-slice-aggregate-feed-2 : tie.Need-slice-aggregate-feed-2 Inv-loop μ-loop
-slice-aggregate-feed-2 c = search needs
-
-feed-requires : tie.Need-feed-requires Inv-loop μ-loop
-feed-requires c κs = search needs
-
-slice-aggregate-fail-2 : tie.Need-slice-aggregate-fail-2 Inv-loop μ-loop
-slice-aggregate-fail-2 c = search needs
-
-fail-requires-3 : tie.Need-fail-requires-3 Inv-loop μ-loop
-fail-requires-3 c κs = search needs
-
-returns-4 : tie.Need-returns-4 Inv-loop μ-loop
-returns-4 c = search needs
-
-sub-turns : tie.Need-sub-turns Inv-loop μ-loop
-sub-turns c = search needs
+add-number : tie.Need-add-number Inv-loop μ-loop
+add-number c = search needs
 
 loop-less : tie.Need-loop-less Inv-loop μ-loop
 loop-less c = search needs
@@ -90,8 +77,11 @@ loop-less c = search needs
 loop-again : tie.Need-loop-again Inv-loop μ-loop
 loop-again c = search needs
 
-returns-5 : tie.Need-returns-5 Inv-loop μ-loop
-returns-5 c = search needs
+returns : tie.Need-returns Inv-loop μ-loop
+returns c = search needs
+
+returns-2 : tie.Need-returns-2 Inv-loop μ-loop
+returns-2 c = search needs
 
 pub run-spec : {M : Type 1} → statement M
 run-spec =
@@ -99,30 +89,26 @@ run-spec =
     (tie.spec
     Inv-loop
     μ-loop
+    large-buffer-requires
     new-requires
     fresh-requires
-    large-buffer-requires
     loop-holds
-    slice-aggregate-read
-    read-requires
-    fail-requires
-    returns
-    slice-aggregate-end
+    slice-aggregate-cut
+    slice-aggregate-cut-2
+    cut-requires
+    slice-aggregate-is-answered
+    is-answered-requires
+    slice-aggregate-first
+    first-requires
+    after-requires
+    family-requires
+    make-requires
+    judge-requires
+    obey-requires
+    obey-requires-2
     end-requires
-    slice-aggregate-fail
-    fail-requires-2
-    returns-2
-    returns-3
-    slice-aggregate-count
-    count-requires
-    array-share-prefix-portion
-    slice-aggregate-feed
-    slice-aggregate-feed-2
-    feed-requires
-    slice-aggregate-fail-2
-    fail-requires-3
-    returns-4
-    sub-turns
+    add-number
     loop-less
     loop-again
-    returns-5)
+    returns
+    returns-2)

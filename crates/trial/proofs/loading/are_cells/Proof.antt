@@ -17,9 +17,6 @@ returns c = search needs
 loop-holds : tie.Need-loop-holds Inv-loop μ-loop
 loop-holds c = search needs
 
-shared-slice-read-digit : tie.Need-shared-slice-read-digit Inv-loop μ-loop
-shared-slice-read-digit c = search needs
-
 digit-requires : tie.Need-digit-requires Inv-loop μ-loop
 digit-requires c κs = search needs
 
@@ -46,7 +43,6 @@ are-cells-spec =
     μ-loop
     returns
     loop-holds
-    shared-slice-read-digit
     digit-requires
     returns-2
     add-i

@@ -6,10 +6,10 @@ use Rattle.trial.proofs.words.after.Statement.{statement}
 use Rattle.trial.proofs.words.after.Tie as tie
 
 abbrev Inv-loop : tie.InvT-loop
-Inv-loop words spaces n at₀ i₀ at i = (at ≤ length words) × (i ≤ spaces)
+Inv-loop text mark marks n at₀ i₀ at i = (at ≤ length text) × (i ≤ marks)
 
 abbrev μ-loop : tie.MeasureT-loop
-μ-loop words spaces n at₀ i₀ at i = spaces - i
+μ-loop text mark marks n at₀ i₀ at i = marks - i
 
 loop-holds : tie.Need-loop-holds Inv-loop μ-loop
 loop-holds c = search needs

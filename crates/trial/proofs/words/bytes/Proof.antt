@@ -12,29 +12,17 @@ Inv-loop word out₀ n i₀ out i = (i ≤ n) × (length out ≡ length out₀)
 abbrev μ-loop : tie.MeasureT-loop
 μ-loop word out₀ n i₀ out i = n - i
 
-slice-aggregate-is : tie.Need-slice-aggregate-is Inv-loop μ-loop
-slice-aggregate-is c = search needs
-
-is-requires : tie.Need-is-requires Inv-loop μ-loop
-is-requires c κs = search needs
+is-dash-requires : tie.Need-is-dash-requires Inv-loop μ-loop
+is-dash-requires c κs = search needs
 
 returns : tie.Need-returns Inv-loop μ-loop
 returns c = search needs
-
-returns-2 : tie.Need-returns-2 Inv-loop μ-loop
-returns-2 c = search needs
-
-returns-3 : tie.Need-returns-3 Inv-loop μ-loop
-returns-3 c = search needs
 
 loop-holds : tie.Need-loop-holds Inv-loop μ-loop
 loop-holds c = search needs
 
 mul-digit : tie.Need-mul-digit Inv-loop μ-loop
 mul-digit c = search needs
-
-shared-slice-read-digit : tie.Need-shared-slice-read-digit Inv-loop μ-loop
-shared-slice-read-digit c = search needs
 
 digit-requires : tie.Need-digit-requires Inv-loop μ-loop
 digit-requires c κs = search needs
@@ -45,23 +33,14 @@ mul-digit-2 c = search needs
 add-digit : tie.Need-add-digit Inv-loop μ-loop
 add-digit c = search needs
 
-shared-slice-read-digit-2 : tie.Need-shared-slice-read-digit-2 Inv-loop μ-loop
-shared-slice-read-digit-2 c = search needs
-
 digit-requires-2 : tie.Need-digit-requires-2 Inv-loop μ-loop
 digit-requires-2 c κs = search needs
 
 same-length : tie.Need-same-length Inv-loop μ-loop
 same-length c = search needs
 
-returns-4 : tie.Need-returns-4 Inv-loop μ-loop
-returns-4 c = search needs
-
-same-length-2 : tie.Need-same-length-2 Inv-loop μ-loop
-same-length-2 c = search needs
-
-returns-5 : tie.Need-returns-5 Inv-loop μ-loop
-returns-5 c = search needs
+returns-2 : tie.Need-returns-2 Inv-loop μ-loop
+returns-2 c = search needs
 
 mul-out : tie.Need-mul-out Inv-loop μ-loop
 mul-out c = search needs
@@ -81,11 +60,17 @@ loop-less c = search needs
 loop-again : tie.Need-loop-again Inv-loop μ-loop
 loop-again c = search needs
 
+same-length-2 : tie.Need-same-length-2 Inv-loop μ-loop
+same-length-2 c = search needs
+
+returns-3 : tie.Need-returns-3 Inv-loop μ-loop
+returns-3 c = search needs
+
 same-length-3 : tie.Need-same-length-3 Inv-loop μ-loop
 same-length-3 c = search needs
 
-returns-6 : tie.Need-returns-6 Inv-loop μ-loop
-returns-6 c = search needs
+returns-4 : tie.Need-returns-4 Inv-loop μ-loop
+returns-4 c = search needs
 
 pub bytes-spec : {M : Type 1} → statement M
 bytes-spec =
@@ -93,28 +78,23 @@ bytes-spec =
     (tie.spec
     Inv-loop
     μ-loop
-    slice-aggregate-is
-    is-requires
+    is-dash-requires
     returns
-    returns-2
-    returns-3
     loop-holds
     mul-digit
-    shared-slice-read-digit
     digit-requires
     mul-digit-2
     add-digit
-    shared-slice-read-digit-2
     digit-requires-2
     same-length
-    returns-4
-    same-length-2
-    returns-5
+    returns-2
     mul-out
     add-out
     slice-write-out
     add-i
     loop-less
     loop-again
+    same-length-2
+    returns-3
     same-length-3
-    returns-6)
+    returns-4)

@@ -14,8 +14,8 @@ abbrev μ-loop : tie.MeasureT-loop
 loop-holds : tie.Need-loop-holds Inv-loop μ-loop
 loop-holds c = search needs
 
-word-requires : tie.Need-word-requires Inv-loop μ-loop
-word-requires c κs = search needs
+part-requires : tie.Need-part-requires Inv-loop μ-loop
+part-requires c κs = search needs
 
 is-requires : tie.Need-is-requires Inv-loop μ-loop
 is-requires c κs = search needs
@@ -42,7 +42,7 @@ place-among-spec =
     Inv-loop
     μ-loop
     loop-holds
-    word-requires
+    part-requires
     is-requires
     returns
     add-i

@@ -1,64 +1,37 @@
 -- `trial::words::write_bytes` is safe and ends. Assumes nothing.
 use Prim.Native.Nat.{_≤_, _-_}
 use mathlib.Core.Path.{_≡_}
-use borrow.Author.Needs.{needs}
 use lib.ListN.{length}
+use borrow.Author.Needs.{needs}
 use Rattle.trial.proofs.words.write_bytes.Statement.{statement}
 use Rattle.trial.proofs.words.write_bytes.Tie as tie
 
 abbrev Inv-loop : tie.InvT-loop
-Inv-loop before bytes text₀ i₀ text i = (i ≤ length bytes) × (length bytes ≤ 64) × (length text ≡ 128)
+Inv-loop mark bytes text₀ at₀ i₀ text at i = (i ≤ length bytes) × (length text ≡ 129)
 
 abbrev μ-loop : tie.MeasureT-loop
-μ-loop before bytes text₀ i₀ text i = length bytes - i
-
-write-all-requires : tie.Need-write-all-requires Inv-loop μ-loop
-write-all-requires c κs = search needs
-
-slice-aggregate-write-all : tie.Need-slice-aggregate-write-all Inv-loop μ-loop
-slice-aggregate-write-all c = search needs
-
-write-all-requires-2 : tie.Need-write-all-requires-2 Inv-loop μ-loop
-write-all-requires-2 c κs = search needs
-
-returns : tie.Need-returns Inv-loop μ-loop
-returns c = search needs
-
-returns-2 : tie.Need-returns-2 Inv-loop μ-loop
-returns-2 c = search needs
-
-loop-holds : tie.Need-loop-holds Inv-loop μ-loop
-loop-holds c = search needs
-
-mul-at : tie.Need-mul-at Inv-loop μ-loop
-mul-at c = search needs
-
-shared-slice-read-text : tie.Need-shared-slice-read-text Inv-loop μ-loop
-shared-slice-read-text c = search needs
-
-cast-text : tie.Need-cast-text Inv-loop μ-loop
-cast-text c = search needs
-
-array-read-text : tie.Need-array-read-text Inv-loop μ-loop
-array-read-text c = search needs
+μ-loop mark bytes text₀ at₀ i₀ text at i = length bytes - i
 
 array-write-text : tie.Need-array-write-text Inv-loop μ-loop
 array-write-text c = search needs
 
-shared-slice-read-text-2 : tie.Need-shared-slice-read-text-2 Inv-loop μ-loop
-shared-slice-read-text-2 c = search needs
+loop-holds : tie.Need-loop-holds Inv-loop μ-loop
+loop-holds c = search needs
 
-cast-text-2 : tie.Need-cast-text-2 Inv-loop μ-loop
-cast-text-2 c = search needs
+shared-slice-read-pair : tie.Need-shared-slice-read-pair Inv-loop μ-loop
+shared-slice-read-pair c = search needs
 
-array-read-text-2 : tie.Need-array-read-text-2 Inv-loop μ-loop
-array-read-text-2 c = search needs
+pair-requires : tie.Need-pair-requires Inv-loop μ-loop
+pair-requires c κs = search needs
 
-add-text : tie.Need-add-text Inv-loop μ-loop
-add-text c = search needs
+slice-aggregate-append : tie.Need-slice-aggregate-append Inv-loop μ-loop
+slice-aggregate-append c = search needs
 
-array-write-text-2 : tie.Need-array-write-text-2 Inv-loop μ-loop
-array-write-text-2 c = search needs
+slice-aggregate-append-2 : tie.Need-slice-aggregate-append-2 Inv-loop μ-loop
+slice-aggregate-append-2 c = search needs
+
+append-requires : tie.Need-append-requires Inv-loop μ-loop
+append-requires c κs = search needs
 
 add-i : tie.Need-add-i Inv-loop μ-loop
 add-i c = search needs
@@ -72,17 +45,14 @@ loop-again c = search needs
 slice-aggregate-first : tie.Need-slice-aggregate-first Inv-loop μ-loop
 slice-aggregate-first c = search needs
 
-mul-first : tie.Need-mul-first Inv-loop μ-loop
-mul-first c = search needs
-
 first-requires : tie.Need-first-requires Inv-loop μ-loop
 first-requires c κs = search needs
 
-write-all-requires-3 : tie.Need-write-all-requires-3 Inv-loop μ-loop
-write-all-requires-3 c κs = search needs
+write-all-requires : tie.Need-write-all-requires Inv-loop μ-loop
+write-all-requires c κs = search needs
 
-returns-3 : tie.Need-returns-3 Inv-loop μ-loop
-returns-3 c = search needs
+returns : tie.Need-returns Inv-loop μ-loop
+returns c = search needs
 
 pub write-bytes-spec : {M : Type 1} → statement M
 write-bytes-spec =
@@ -90,27 +60,17 @@ write-bytes-spec =
     (tie.spec
     Inv-loop
     μ-loop
-    write-all-requires
-    slice-aggregate-write-all
-    write-all-requires-2
-    returns
-    returns-2
-    loop-holds
-    mul-at
-    shared-slice-read-text
-    cast-text
-    array-read-text
     array-write-text
-    shared-slice-read-text-2
-    cast-text-2
-    array-read-text-2
-    add-text
-    array-write-text-2
+    loop-holds
+    shared-slice-read-pair
+    pair-requires
+    slice-aggregate-append
+    slice-aggregate-append-2
+    append-requires
     add-i
     loop-less
     loop-again
     slice-aggregate-first
-    mul-first
     first-requires
-    write-all-requires-3
-    returns-3)
+    write-all-requires
+    returns)

@@ -1,16 +1,16 @@
--- `trial::parts::copy` is safe and ends. Assumes nothing.
+-- `trial::parts::append` is safe and ends. Assumes nothing.
 use Prim.Native.Nat.{_≤_, _-_}
 use mathlib.Core.Path.{_≡_}
-use borrow.Author.Needs.{needs}
 use lib.ListN.{length}
-use Rattle.trial.proofs.parts.copy.Statement.{statement}
-use Rattle.trial.proofs.parts.copy.Tie as tie
+use borrow.Author.Needs.{needs}
+use Rattle.trial.proofs.parts.append.Statement.{statement}
+use Rattle.trial.proofs.parts.append.Tie as tie
 
 abbrev Inv-loop : tie.InvT-loop
-Inv-loop from to₀ i₀ to i = (i ≤ length from) × (length to ≡ length to₀)
+Inv-loop from to₀ used at₀ i₀ to at i = (i ≤ length from) × (length to ≡ length to₀)
 
 abbrev μ-loop : tie.MeasureT-loop
-μ-loop from to₀ i₀ to i = length from - i
+μ-loop from to₀ used at₀ i₀ to at i = length from - i
 
 loop-holds : tie.Need-loop-holds Inv-loop μ-loop
 loop-holds c = search needs
@@ -27,6 +27,9 @@ shared-slice-read-to c = search needs
 slice-write-to : tie.Need-slice-write-to Inv-loop μ-loop
 slice-write-to c = search needs
 
+add-at : tie.Need-add-at Inv-loop μ-loop
+add-at c = search needs
+
 add-i : tie.Need-add-i Inv-loop μ-loop
 add-i c = search needs
 
@@ -42,8 +45,8 @@ same-length-2 c = search needs
 returns-2 : tie.Need-returns-2 Inv-loop μ-loop
 returns-2 c = search needs
 
-pub copy-spec : {M : Type 1} → statement M
-copy-spec =
+pub append-spec : {M : Type 1} → statement M
+append-spec =
     tie.close
     (tie.spec
     Inv-loop
@@ -53,6 +56,7 @@ copy-spec =
     returns
     shared-slice-read-to
     slice-write-to
+    add-at
     add-i
     loop-less
     loop-again
