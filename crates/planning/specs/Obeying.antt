@@ -35,9 +35,12 @@ puts p s d n = asks p (Put s d n)
 
 -- "the last character written, its set and code, is written n minus 64 times more"; "Only a fresh screen has no last
 -- character; then nothing happens"
+abbrev pub repeats : Last → ℕ → Asked
+repeats Never n = Nothing
+repeats (Character s d) n = Put s d n
+
 abbrev pub again : Pen → Last → ℕ → Planned
-again p Never n = keeps p
-again p (Character s d) n = puts p s d n
+again p l n = asks p (repeats l n)
 
 -- ---- moves
 

@@ -1,6 +1,6 @@
 // What each order does to the pen, and asks of the cells.
 ghost use mathlib.Core.Path.{_≡_};
-ghost use Rattle.planning.specs.Obeying.{keeps, puts, again, obeyed};
+ghost use Rattle.planning.specs.Obeying.{keeps, repeats, obeyed};
 use crate::Asked;
 use crate::Planned;
 use crate::moves::go;
@@ -24,51 +24,69 @@ pub(crate) fn keep_cells(pen: Pen) -> Planned
     }
 }
 
-// A character, so many times.
-fn put(pen: Pen, set: u8, code: u8, times: u8) -> Planned
-    ensures { λ r. ⌜ r ≡ puts pen set code times ⌝ }
+// The last character so many times more, if there was one.
+fn repeat(last: Last, times: u8) -> Asked
+    ensures { λ r. ⌜ r ≡ repeats last times ⌝ }
 {
-    Planned {
-        pen,
-        asked: Asked::Put { set, code, times },
+    match last {
+        Last::Never => Asked::Nothing,
+        Last::Character { set, code } => Asked::Put { set, code, times },
     }
 }
 
-// The last character so many times more.
-fn again(pen: Pen, times: u8) -> Planned
-    ensures { λ r. ⌜ r ≡ again pen (pen .last) times ⌝ }
+// What an order makes of the pen. A character moves it only when it is written.
+fn change(pen: Pen, order: Order) -> Pen
+    ensures { λ r. ⌜ r ≡ obeyed pen order .pen ⌝ }
 {
-    let last = pen.last;
-    match last {
-        Last::Never => keep_cells(pen),
-        Last::Character { set, code } => put(pen, set, code, times),
+    let home = Place { row: 1, column: 1 };
+    match order {
+        Order::Left => with_place(pen, motion::left(pen.place)),
+        Order::Right => with_place(pen, motion::right(pen.place)),
+        Order::Up => with_place(pen, motion::up(pen.place)),
+        Order::Down => go_down(pen),
+        Order::First => with_place(pen, motion::first(pen.place)),
+        Order::Clear => start_at(pen, home),
+        Order::Home => start_at(pen, home),
+        Order::ShiftOut => with_attributes(pen, pen.attributes.shift_out()),
+        Order::ShiftIn => with_attributes(pen, pen.attributes.shift_in()),
+        Order::Show => with_shown(pen, true),
+        Order::Hide => with_shown(pen, false),
+        Order::Pair(code) => with_attributes(pen, pairs::pair(pen.attributes, code)),
+        Order::Go { row, column } => go(pen, addresses::locate(row, column)),
+        _ => pen,
+    }
+}
+
+// What it asks of the cells.
+fn ask(pen: Pen, order: Order) -> Asked
+    ensures { λ r. ⌜ r ≡ obeyed pen order .asked ⌝ }
+{
+    match order {
+        Order::Clear => Asked::Blank,
+        Order::Write(code) => Asked::Put {
+            set: pen.attributes.set,
+            code,
+            times: 1,
+        },
+        Order::Second(code) => Asked::Put {
+            set: 2,
+            code,
+            times: 1,
+        },
+        Order::Again(times) => {
+            let last = pen.last;
+            repeat(last, times)
+        }
+        _ => Asked::Nothing,
     }
 }
 
 pub(crate) fn obey(pen: Pen, order: Order) -> Planned
     ensures { λ r. ⌜ r ≡ obeyed pen order ⌝ }
 {
-    let home = Place { row: 1, column: 1 };
-    match order {
-        Order::Skip => keep_cells(pen),
-        Order::Left => keep_cells(with_place(pen, motion::left(pen.place))),
-        Order::Right => keep_cells(with_place(pen, motion::right(pen.place))),
-        Order::Up => keep_cells(with_place(pen, motion::up(pen.place))),
-        Order::Down => keep_cells(go_down(pen)),
-        Order::First => keep_cells(with_place(pen, motion::first(pen.place))),
-        Order::Clear => Planned {
-            pen: start_at(pen, home),
-            asked: Asked::Blank,
-        },
-        Order::Home => keep_cells(start_at(pen, home)),
-        Order::ShiftOut => keep_cells(with_attributes(pen, pen.attributes.shift_out())),
-        Order::ShiftIn => keep_cells(with_attributes(pen, pen.attributes.shift_in())),
-        Order::Show => keep_cells(with_shown(pen, true)),
-        Order::Hide => keep_cells(with_shown(pen, false)),
-        Order::Pair(code) => keep_cells(with_attributes(pen, pairs::pair(pen.attributes, code))),
-        Order::Go { row, column } => keep_cells(go(pen, addresses::locate(row, column))),
-        Order::Write(code) => put(pen, pen.attributes.set, code, 1),
-        Order::Second(code) => put(pen, 2, code, 1),
-        Order::Again(times) => again(pen, times),
+    let asked = ask(pen, order);
+    Planned {
+        pen: change(pen, order),
+        asked,
     }
 }
