@@ -2,9 +2,10 @@
 ghost use mathlib.Core.Path.{_≡_};
 ghost use mathlib.Core.Bool.{true};
 ghost use Prim.Native.Nat.{_≤_};
+ghost use Rattle.cursor.specs.Places.{On};
 ghost use Rattle.pen.specs.Pens.{InPen};
 ghost use Rattle.pen.specs.Strokes.{stroke};
-ghost use Rattle.screen.specs.Turns.{isPlain, turned};
+ghost use Rattle.screen.specs.Turns.{isPlain, turnFor, turned};
 use crate::drawing::index;
 use attributes::Waiting;
 use cells::Cell;
@@ -75,6 +76,25 @@ pub(crate) fn write_plainly(pen: Pen, value: u8) -> Stroke
     Stroke { cell, pen: next }
 }
 
+// What is planned, told: a character written once is a cell to store.
+fn settle(pen: Pen, asked: Asked) -> Turn
+    requires { ⌜ On (pen .place) ⌝ }
+    ensures { λ r. ⌜ r ≡ turnFor pen asked ⌝ }
+{
+    match asked {
+        Asked::Nothing => Turn::Moved(pen),
+        Asked::Blank => Turn::More { pen, asked },
+        Asked::Put { set, code, times } => {
+            if times == 1 {
+                let at = index(pen.place);
+                let stroke = pen.write(set, code);
+                return Turn::Typed { at, stroke };
+            }
+            Turn::More { pen, asked }
+        }
+    }
+}
+
 // Any value.
 pub(crate) fn take(pen: Pen, value: u8) -> Turn
     requires { ⌜ InPen pen ⌝ }
@@ -84,16 +104,5 @@ pub(crate) fn take(pen: Pen, value: u8) -> Turn
     let planned = plan(pen, value);
     let next = planned.pen;
     let asked = planned.asked;
-    match asked {
-        Asked::Nothing => Turn::Moved(next),
-        Asked::Blank => Turn::More { pen: next, asked },
-        Asked::Put { set, code, times } => {
-            if times == 1 {
-                let at = index(next.place);
-                let stroke = next.write(set, code);
-                return Turn::Typed { at, stroke };
-            }
-            Turn::More { pen: next, asked }
-        }
-    }
+    settle(next, asked)
 }
