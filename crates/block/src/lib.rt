@@ -1,11 +1,11 @@
-// The block of seventeen bytes, made and read: all that a caller needs. `make`, `mend` and `with_parity` are handed
-// on from where they are built; `judge` is `mend` in the form that 01 names, "A form for each place": it hands back
+// The block of seventeen bytes, made and read: all that a caller needs. `make`, `values`, `mend` and `with_parity` are
+// handed on from where they are built; `judge` is `mend` in the form that 01 names, "A form for each place": it hands back
 // the first fifteen bytes of the lent block itself. proofs/Returned ties the two ends together: what the maker
 // writes the reader hands back, and what is read clean the maker writes.
 ghost use mathlib.Core.Path.{_≡_};
-ghost use Rattle.maker.specs.Making.{valuesOf};
 ghost use Rattle.reader.specs.Judging.{judged, handed, bitNamed};
 pub use maker::make;
+pub use maker::values;
 pub use parity::with_parity;
 use reader::Verdict;
 pub use reader::mend;
@@ -41,17 +41,4 @@ pub fn judge<'a>(block: &'a mut [u8], said: &mut u8, bit: &mut u8) -> &'a mut [u
             &mut block[..0]
         }
     }
-}
-
-// The fifteen values of a block: its useful bytes without parity.
-pub fn values(bytes: [u8; 17]) -> [u8; 15]
-    ensures { λ r. ⌜ r ≡ valuesOf bytes ⌝ }
-{
-    let mut values = [0u8; 15];
-    let mut i: usize = 0;
-    while i < 15 {
-        values[i] = bytes[i] % 128;
-        i += 1;
-    }
-    values
 }

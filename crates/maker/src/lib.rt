@@ -1,13 +1,15 @@
 // The maker of blocks (01, "The block", "Numbers given"; 001, section 5-1-3).
 //
-// `make` writes the block of 1 to 15 values into the first seventeen bytes of a lent output. specs/Making says what
-// it tells and leaves, for any values and any output. proofs/Blocks shows that what it writes is valid and carries
-// the values, and that every valid block of bytes is what it writes for that block's values.
+// `make` writes the block of 1 to 15 values into the first seventeen bytes of a lent output, and `values` gives the
+// values of a block. specs/Making says what `make` tells and leaves, for any values and any output. proofs/Blocks shows
+// that what it writes is valid and carries the values, and that every valid block of bytes is what it writes for that
+// block's values.
 ghost use Prim.Native.Nat.{_≤_};
 ghost use mathlib.Core.Path.{_≡_};
 ghost use mathlib.Core.List.{_++_};
 ghost use lib.ListN.{length, getD, take, drop};
 ghost use Rattle.maker.specs.Making.{useful, sealed, told, makeTold, makeLeft};
+ghost use Rattle.maker.specs.Making.{valuesOf};
 
 pub enum Made {
     Taken,
@@ -73,4 +75,17 @@ pub fn make(values: &[u8], out: &mut [u8]) -> Made
     fill(values, out);
     seal(out);
     Made::Taken
+}
+
+// The fifteen values of a block: its useful bytes without parity.
+pub fn values(bytes: [u8; 17]) -> [u8; 15]
+    ensures { λ r. ⌜ r ≡ valuesOf bytes ⌝ }
+{
+    let mut values = [0u8; 15];
+    let mut i: usize = 0;
+    while i < 15 {
+        values[i] = bytes[i] % 128;
+        i += 1;
+    }
+    values
 }

@@ -32,13 +32,13 @@ fn judge_held(r: Receiver, byte: u8) -> Stepped
 {
     let mut arrived = r.held;
     arrived[16] = byte;
-    let verdict = block::mend(&mut arrived[..]);
+    let verdict = reader::mend(&mut arrived[..]);
     let after = (r.number + 1) % 16;
     if accepts(verdict) {
         return Stepped {
             next: emptied(after, Phase::Collecting),
             answer: 0,
-            values: block::values(arrived),
+            values: maker::values(arrived),
             passed: 15,
             request: [0; 2],
             asked: 0,
