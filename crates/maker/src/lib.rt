@@ -82,10 +82,10 @@ pub fn values(bytes: [u8; 17]) -> [u8; 15]
     ensures { λ r. ⌜ r ≡ valuesOf bytes ⌝ }
 {
     let mut values = [0u8; 15];
-    let mut i: usize = 0;
-    while i < 15 {
-        values[i] = bytes[i] % 128;
-        i += 1;
+    let mut place: usize = 0;
+    while place < 15 {
+        values[place] = bytes[place] % 128;
+        place += 1;
     }
     values
 }

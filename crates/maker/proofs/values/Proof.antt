@@ -28,8 +28,8 @@ array-read-values c = search needs
 array-write-values : tie.Need-array-write-values Inv-loop μ-loop
 array-write-values c = search needs
 
-add-i : tie.Need-add-i Inv-loop μ-loop
-add-i c = search needs
+add-place : tie.Need-add-place Inv-loop μ-loop
+add-place c = search needs
 
 loop-less : tie.Need-loop-less Inv-loop μ-loop
 loop-less c = omega arith
@@ -38,7 +38,7 @@ loop-again : tie.Need-loop-again Inv-loop μ-loop
 loop-again c =
     let a = c .before in
     let B : List ℕ = a .before .args .t1 in
-    let i : ℕ = a .loop .i in
+    let i : ℕ = a .loop .place in
     let l : length (valuesOf B) ≡ 15 = values-length B (search needs) in (
       omega arith,
       ap₂ (λ (x : List ℕ) (y : ℕ). set x i y) (a .loop .inv .1) (sym (value-at B i (omega arith)))
@@ -49,7 +49,7 @@ returns : tie.Need-returns Inv-loop μ-loop
 returns c =
     let a = c .before in
     let B : List ℕ = a .before .args .t1 in
-    let e : a .loop .i ≡ 15 = omega arith in
+    let e : a .loop .place ≡ 15 = omega arith in
     let l : length (valuesOf B) ≡ 15 = values-length B (search needs) in
     a .loop .inv .1 ∙ ap (λ (n : ℕ). take n (valuesOf B) ++ drop n (replicate 15 0)) e
     ∙ append-nil (take 15 (valuesOf B)) ∙ take-all 15 (valuesOf B) (omega arith)
@@ -63,7 +63,7 @@ values-spec =
     loop-holds
     array-read-values
     array-write-values
-    add-i
+    add-place
     loop-less
     loop-again
     returns)
