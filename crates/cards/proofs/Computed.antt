@@ -13,8 +13,9 @@ use Rattle.sheet.specs.Clearing.{cleared}
 use Rattle.sheet.specs.Within.{allGood}
 use Rattle.pen.specs.Pens.{goodSpot, inRange as penInRange}
 use Rattle.planning.specs.Obeying.{gone, obeyed}
-use Rattle.screen.specs.Screens.{freshScreen, written, writtenTimes, applied, advanced, advancedBy}
-use Rattle.screen.specs.Ranges.{inRange, broken}
+use Rattle.page.specs.Pages.{freshScreen}
+use Rattle.page.specs.Ranges.{inRange, broken}
+use Rattle.screen.specs.Screens.{written, writtenTimes, applied, advanced, advancedBy}
 use Rattle.screen.specs.Calls.{ran}
 use Rattle.cards.specs.Cards.{Card, EachHolds, blockCards, lineCards, screenCards, cards}
 

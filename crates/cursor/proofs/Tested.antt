@@ -2,11 +2,13 @@
 use mathlib.Core.Path.{_≡_}
 use mathlib.Core.Bool.{true}
 use mathlib.Core.List.{[], _∷_}
+use Prim.Native.Nat.{_<_}
+use native.Mathlib.Omega.{arith}
 use lib.Dec.{leb, lit≤}
 use borrow.Author.Tests.{leb-true, le-leb}
 use Rattle.laws.proofs.Computed.{each}
 use Rattle.cursor.specs.declared.Place.{Place}
-use Rattle.cursor.specs.Places.{home, On, onScreen}
+use Rattle.cursor.specs.Places.{home, On, onScreen, indexOf}
 
 pub on-true : (p : Place) → On p → onScreen p ≡ true
 on-true p h = simp (le-leb _ _ (h .row), le-leb _ _ (h .low), le-leb _ _ (h .high))
@@ -18,3 +20,7 @@ true-on p e =
 
 pub home-on : On home
 home-on = record { row = lit≤ tt; low = lit≤ tt; high = lit≤ tt }
+
+-- a place on the screen has its cell among the thousand
+pub index-low : {x : Place} → On x → indexOf x < 1000
+index-low h = omega (arith, h .row, h .low, h .high)

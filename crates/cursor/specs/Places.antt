@@ -1,6 +1,6 @@
 -- The cursor's place (01, "Screen cells"). Assumes nothing.
 use mathlib.Core.Bool.{Bool, _&&_}
-use Prim.Native.Nat.{ℕ, _≤_}
+use Prim.Native.Nat.{ℕ, _+_, _-_, _*_, _≤_}
 use lib.Dec.{leb}
 use Rattle.cursor.specs.declared.Place.{Place}
 
@@ -22,3 +22,7 @@ pub record On (p : Place) : Type 0 where
 -- the test of it
 abbrev pub onScreen : Place → Bool
 onScreen p = leb (p .row) 24 && (leb 1 (p .column) && leb (p .column) 40)
+
+-- "Rows 0 to 24, columns 1 to 40": where a place's cell lies, row by row
+abbrev pub indexOf : Place → ℕ
+indexOf x = x .row * 40 + x .column - 1

@@ -3,7 +3,7 @@
 //
 // specs/Places says which places lie on the screen; proofs/Tested ties the test to it.
 ghost use mathlib.Core.Path.{_≡_};
-ghost use Rattle.cursor.specs.Places.{onScreen};
+ghost use Rattle.cursor.specs.Places.{onScreen, indexOf};
 
 // Rows count from 0, columns from 1.
 pub struct Place {
@@ -26,5 +26,15 @@ impl Place {
             return false;
         }
         true
+    }
+    // Where its cell lies among the thousand. A place off the screen is taken too.
+    pub fn index(self) -> usize
+        ensures { λ r. ⌜ r ≡ indexOf self ⌝ }
+    {
+        let through = (self.row as usize) * 40 + (self.column as usize);
+        if 0 < through {
+            return through - 1;
+        }
+        0
     }
 }

@@ -6,10 +6,10 @@ use Prim.Native.Nat.{ℕ, _≤_, _<_}
 use lib.ListN.{length}
 use borrow.Author.Tests.{lt-ltb, le-ltb}
 use Rattle.values.specs.Large.{firstLarge}
-use Rattle.screen.specs.declared.Screen.{Screen}
+use Rattle.page.specs.declared.Screen.{Screen}
+use Rattle.page.specs.Ranges.{broken}
 use Rattle.screen.specs.declared.Answer.the-variants.{Taken, TooLarge}
 use Rattle.screen.specs.Screens.{advancedBy}
-use Rattle.screen.specs.Ranges.{broken}
 use Rattle.screen.specs.Calls.{runsTo, ran}
 
 module _ (s : Screen) (vs : List ℕ) (e : broken s ≡ false) where

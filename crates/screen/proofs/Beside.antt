@@ -6,6 +6,8 @@ use lib.Dec.{eqb, eqb→eq}
 use lib.ListN.{set}
 use Rattle.laws.proofs.Computed.{holds}
 use Rattle.cursor.specs.Places.{On}
+use Rattle.cursor.specs.Places.{indexOf}
+use Rattle.cursor.proofs.Tested.{index-low}
 use Rattle.pen.specs.declared.Pen.{Pen}
 use Rattle.pen.specs.declared.Stroke.{Stroke}
 use Rattle.pen.specs.Pens.{InPen}
@@ -15,12 +17,12 @@ use Rattle.planning.specs.declared.Asked.the-variants.{Nothing, Blank, Put}
 use Rattle.planning.specs.declared.Planned.{Planned}
 use Rattle.planning.specs.Planning.{planned}
 use Rattle.planning.proofs.Stays.{planned-in}
-use Rattle.screen.specs.declared.Screen.{Screen}
-use Rattle.screen.specs.Screens.{indexOf, withPen, written, writtenTimes, applied, advanced}
+use Rattle.page.specs.declared.Screen.{Screen}
+use Rattle.page.specs.Pages.{withPen}
+use Rattle.screen.specs.Screens.{written, writtenTimes, applied, advanced}
 use Rattle.screen.specs.declared.turns.Turn.{Turn}
 use Rattle.screen.specs.declared.turns.Turn.the-variants.{Moved, Typed, More}
 use Rattle.screen.specs.Turns.{isPlain, turnFor, turned}
-use Rattle.screen.proofs.Stays.{index-low}
 use Rattle.screen.proofs.Plain.{plain-plan}
 
 -- the pen that the screen had does not matter

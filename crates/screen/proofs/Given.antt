@@ -13,16 +13,16 @@ use Rattle.laws.proofs.Computed.{apart}
 use Rattle.numbers.specs.Numbers.{Told, numberOf}
 use Rattle.values.specs.Large.{Values, firstLarge}
 use Rattle.values.proofs.Found.{none-large, values-append}
-use Rattle.screen.specs.declared.Screen.{Screen}
+use Rattle.page.specs.declared.Screen.{Screen}
+use Rattle.page.specs.Ranges.{broken, InScreen}
+use Rattle.page.proofs.Stays.{unbroken}
 use Rattle.screen.specs.declared.Answer.the-variants.{Taken, TooLarge, Broken}
 use Rattle.screen.specs.declared.Stepped.{Stepped}
 use Rattle.screen.specs.declared.Ran.{Ran}
 use Rattle.screen.specs.Screens.{advanced, advancedBy}
-use Rattle.screen.specs.Ranges.{broken, InScreen}
-use Rattle.screen.specs.Calls.{told, stepsTo, stepped, runsTo, ran, runTold, read, pointed}
-use Rattle.screen.specs.Calls.{readNumber, cursorNumber}
+use Rattle.screen.specs.Calls.{told, stepsTo, stepped, runsTo, ran, runTold}
 use Rattle.screen.specs.Claims.{singly}
-use Rattle.screen.proofs.Stays.{unbroken, advanced-in}
+use Rattle.screen.proofs.Stays.{advanced-in}
 use Rattle.screen.proofs.Steps.{by-append}
 use Rattle.screen.proofs.Answers.{ran-taken}
 
@@ -67,11 +67,6 @@ step-told s b =
 pub step-broken : (s : Screen) (b : ℕ) → broken s ≡ true → stepped s b ≡ stepsTo s Broken
 unfolding stepped
 step-broken s b e = simp e
-
-pub reads-broken : (s : Screen) → broken s ≡ true
-    → ((r c : ℕ) → readNumber (read s r c) ≡ 5 ∷ []) × (cursorNumber (pointed s) ≡ 5 ∷ [])
-unfolding read pointed
-reads-broken s e = (λ r c. simp e, simp e)
 
 pub step-large : (s : Screen) (b : ℕ) → broken s ≡ false → 127 < b → stepped s b ≡ stepsTo s (TooLarge 0)
 unfolding stepped

@@ -14,7 +14,7 @@ use Rattle.planning.specs.Changing.{withSequence}
 use Rattle.planning.specs.Obeying.{again, obeyed}
 use Rattle.planning.specs.Planning.{planned}
 use Rattle.planning.proofs.Plans.{plannedBy, plan-heard, plan-text}
-use Rattle.screen.specs.declared.Screen.{Screen}
+use Rattle.page.specs.declared.Screen.{Screen}
 use Rattle.screen.specs.Screens.{written, writtenTimes, applied, advanced}
 use Rattle.screen.specs.Claims.{ended}
 use Rattle.screen.proofs.Beside.{applied-any}

@@ -22,8 +22,9 @@ use Rattle.planning.specs.Grounds.{fate, outcome}
 use Rattle.planning.proofs.Plans.{plan-heard}
 use Rattle.planning.proofs.Fates.{value-fate}
 use Rattle.planning.proofs.Row0.{kept-stays, entered, enters, lf-back}
-use Rattle.screen.specs.declared.Screen.{Screen}
-use Rattle.screen.specs.Screens.{withPen, written, writtenTimes, applied, advanced, advancedBy}
+use Rattle.page.specs.declared.Screen.{Screen}
+use Rattle.page.specs.Pages.{withPen}
+use Rattle.screen.specs.Screens.{written, writtenTimes, applied, advanced, advancedBy}
 use Rattle.screen.specs.Claims.{enteringRow0, StaysInRow0, done, next}
 use Rattle.screen.proofs.Repeated.{step-plan, nul-step}
 

@@ -1,4 +1,4 @@
--- What the range test of a screen says; every step leaves a screen in range. Assumes nothing.
+-- Every step leaves a screen in range. Assumes nothing.
 use mathlib.Core.Path.{_≡_, refl, sym, ap, _∙_}
 use mathlib.Core.Bool.{Bool, true, false, not}
 use mathlib.Core.List.{[], _∷_}
@@ -8,6 +8,7 @@ use lib.ListN.{length, length-set, length-append, length-take, length-replicate}
 use Rattle.laws.proofs.Computed.{each}
 use Rattle.cursor.specs.declared.Place.{Place}
 use Rattle.cursor.specs.Places.{On}
+use Rattle.cursor.specs.Places.{indexOf}
 use Rattle.cells.specs.Characters.{blankOf}
 use Rattle.cells.specs.Within.{Character}
 use Rattle.sheet.specs.Clearing.{cleared}
@@ -20,52 +21,10 @@ use Rattle.planning.specs.declared.Asked.{Asked}
 use Rattle.planning.specs.declared.Asked.the-variants.{Nothing, Blank, Put}
 use Rattle.planning.specs.Planning.{planned}
 use Rattle.planning.proofs.Stays.{InAsked, planned-in}
-use Rattle.screen.specs.declared.Screen.{Screen}
-use Rattle.screen.specs.Screens.{freshScreen, indexOf, written, writtenTimes, applied, advanced}
-use Rattle.screen.specs.Ranges.{inRange, broken, InScreen}
-
--- a place on the screen has its cell among the thousand
-pub index-low : {x : Place} → On x → indexOf x < 1000
-index-low h = omega (arith, h .row, h .low, h .high)
-
--- ---- the test is the ranges
-
-pub screen-true : {s : Screen} → InScreen s → inRange s ≡ true
-unfolding inRange
-screen-true {s} h = simp (pen-true (s .pen) (h .pen), all-true (h .cells))
-
-pub true-screen : (s : Screen) → length (s .cells) ≡ 1000 → inRange s ≡ true → InScreen s
-unfolding inRange
-true-screen s n e =
-    let t = each (penInRange (s .pen) ∷ allGood (s .cells) ∷ []) e in
-    record { pen = true-pen (s .pen) (t .0); cells = true-all (s .cells) (t .1); thousand = n }
-
--- broken is what is not in range
-pub whole : (s : Screen) → broken s ≡ false → inRange s ≡ true
-unfolding broken
-whole s e = go (inRange s) e
-  where
-    go : (t : Bool) → not t ≡ false → t ≡ true
-    go true f = refl
-    go false f = sym f
-
-not-broken : (s : Screen) → inRange s ≡ true → broken s ≡ false
-unfolding broken
-not-broken s e = ap not e
-
-pub unbroken : {s : Screen} → InScreen s → broken s ≡ false
-unbroken {s} h = not-broken s (screen-true h)
-
--- the pen alone
-pub true-pen-in : (s : Screen) → inRange s ≡ true → InPen (s .pen)
-unfolding inRange
-true-pen-in s e = true-pen (s .pen) (each (penInRange (s .pen) ∷ allGood (s .cells) ∷ []) e .0)
-
--- ---- what stays in range
-
-pub fresh-in-range : InScreen freshScreen
-unfolding freshScreen
-fresh-in-range = record { pen = fresh-in; cells = blanks-in 1000; thousand = length-replicate 1000 blankOf }
+use Rattle.page.specs.declared.Screen.{Screen}
+use Rattle.page.specs.Pages.{freshScreen}
+use Rattle.page.specs.Ranges.{inRange, broken, InScreen}
+use Rattle.screen.specs.Screens.{written, writtenTimes, applied, advanced}
 
 pub written-in : {s : Screen} (a d : ℕ) → Character a d → InScreen s → InScreen (written s a d)
 unfolding written

@@ -12,6 +12,8 @@ use borrow.Author.Tests.{eqb-true, eqb-false}
 use Rattle.laws.proofs.Computed.{each, holds, fails}
 use Rattle.cursor.specs.declared.Place.{Place}
 use Rattle.cursor.specs.Places.{at, On}
+use Rattle.cursor.specs.Places.{indexOf}
+use Rattle.cursor.proofs.Tested.{index-low}
 use Rattle.motion.specs.Moves.{rightOf}
 use Rattle.motion.proofs.Stays.{right-on}
 use Rattle.sequences.specs.declared.Sequence.{Sequence}
@@ -31,11 +33,11 @@ use Rattle.planning.specs.Planning.{planned}
 use Rattle.planning.specs.Reach.{writes, clears}
 use Rattle.planning.proofs.Plans.{plan-heard}
 use Rattle.planning.proofs.Reached.{Asks, plan-asks}
-use Rattle.screen.specs.declared.Screen.{Screen}
-use Rattle.screen.specs.Screens.{indexOf, cellAt, withPen, written, writtenTimes, applied, advanced}
-use Rattle.screen.specs.Ranges.{InScreen}
+use Rattle.page.specs.declared.Screen.{Screen}
+use Rattle.page.specs.Pages.{cellAt, withPen}
+use Rattle.page.specs.Ranges.{InScreen}
+use Rattle.screen.specs.Screens.{written, writtenTimes, applied, advanced}
 use Rattle.screen.specs.Claims.{onwards, Among, here, later}
-use Rattle.screen.proofs.Stays.{index-low}
 use Rattle.screen.proofs.Repeated.{step-plan}
 
 -- ---- places

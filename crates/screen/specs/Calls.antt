@@ -6,18 +6,13 @@ use lib.Dec.{ltb, eqb}
 use lib.ListN.{length}
 use Rattle.numbers.specs.Numbers.{Conditions, numberOf, Told}
 use Rattle.values.specs.Large.{firstLarge}
-use Rattle.cursor.specs.Places.{at, onScreen}
-use Rattle.screen.specs.declared.Screen.{Screen}
+use Rattle.page.specs.declared.Screen.{Screen}
+use Rattle.page.specs.Ranges.{broken}
 use Rattle.screen.specs.declared.Answer.{Answer}
 use Rattle.screen.specs.declared.Answer.the-variants.{Taken, TooLarge, Broken}
 use Rattle.screen.specs.declared.Stepped.{Stepped}
 use Rattle.screen.specs.declared.Ran.{Ran}
-use Rattle.screen.specs.declared.Read.{Read}
-use Rattle.screen.specs.declared.Read.the-variants.{Broken as Unread, Off, There}
-use Rattle.screen.specs.declared.Cursor.{Cursor}
-use Rattle.screen.specs.declared.Cursor.the-variants.{Broken as Lost, Hidden, Shown}
-use Rattle.screen.specs.Screens.{cellAt, advanced, advancedBy}
-use Rattle.screen.specs.Ranges.{broken}
+use Rattle.screen.specs.Screens.{advanced, advancedBy}
 
 -- the number of each answer, and what it names
 abbrev pub told : Answer → Told
@@ -63,23 +58,3 @@ runTold s vs =
       number = numberOf (runConditions s vs);
       named = cond (eqb (numberOf (runConditions s vs)) 2) (firstLarge vs ∷ []) [];
     }
-
--- ---- reading
-
--- a place off the screen has an answer of its own
-unfoldable pub read : Screen → ℕ → ℕ → Read
-read s r c = cond (broken s) Unread (cond (onScreen (at r c)) (There (cellAt s (at r c))) Off)
-
-unfoldable pub pointed : Screen → Cursor
-pointed s = cond (broken s) Lost (cond (s .pen .shown) (Shown (s .pen .place)) (Hidden (s .pen .place)))
-
--- the paper's number of what is read; a place off the screen has none
-abbrev pub readNumber : Read → List ℕ
-readNumber Unread = 5 ∷ []
-readNumber Off = []
-readNumber (There c) = 0 ∷ []
-
-abbrev pub cursorNumber : Cursor → List ℕ
-cursorNumber Lost = 5 ∷ []
-cursorNumber (Hidden x) = 0 ∷ []
-cursorNumber (Shown x) = 0 ∷ []

@@ -7,8 +7,9 @@ use Rattle.cursor.specs.declared.Place.{Place}
 use Rattle.motion.specs.Moves.{rightOf}
 use Rattle.sequences.specs.declared.Sequence.the-variants.{Free}
 use Rattle.planning.specs.Changing.{withSequence}
-use Rattle.screen.specs.declared.Screen.{Screen}
-use Rattle.screen.specs.Screens.{withPen, advanced}
+use Rattle.page.specs.declared.Screen.{Screen}
+use Rattle.page.specs.Pages.{withPen}
+use Rattle.screen.specs.Screens.{advanced}
 use Rattle.screen.specs.Calls.{stepped}
 
 -- ---- places in writing order

@@ -1,5 +1,4 @@
 pub mod Screens
-pub mod Ranges
 pub mod Calls
 pub mod Claims
 pub mod Turns

@@ -1,33 +1,16 @@
 -- What one value does to a screen in range (01, "Screen cells"). Assumes nothing.
 use mathlib.Core.List.{List, [], _∷_}
-use Prim.Native.Nat.{ℕ, zero, suc, _+_, _-_, _*_}
-use lib.ListN.{set, getD, replicate}
-use Rattle.cursor.specs.declared.Place.{Place}
-use Rattle.cells.specs.declared.Cell.{Cell}
-use Rattle.cells.specs.Characters.{blankOf}
+use Prim.Native.Nat.{ℕ, zero, suc}
+use lib.ListN.{set}
+use Rattle.cursor.specs.Places.{indexOf}
 use Rattle.sheet.specs.Clearing.{cleared}
 use Rattle.pen.specs.declared.Pen.{Pen}
-use Rattle.pen.specs.Pens.{freshPen}
 use Rattle.pen.specs.Strokes.{stroke}
 use Rattle.planning.specs.declared.Asked.{Asked}
 use Rattle.planning.specs.declared.Asked.the-variants.{Nothing, Blank, Put}
 use Rattle.planning.specs.Planning.{planned}
-use Rattle.screen.specs.declared.Screen.{Screen}
-
--- "a fresh screen is 1,000 equal cells"
-unfoldable pub freshScreen : Screen
-freshScreen = record { cells = replicate 1000 blankOf; pen = freshPen }
-
--- "Rows 0 to 24, columns 1 to 40": where a place's cell lies, row by row
-abbrev pub indexOf : Place → ℕ
-indexOf x = x .row * 40 + x .column - 1
-
--- the cell at a place
-abbrev pub cellAt : Screen → Place → Cell
-cellAt s x = getD (s .cells) (indexOf x) blankOf
-
-abbrev pub withPen : Screen → Pen → Screen
-withPen s p = record { cells = s .cells; pen = p }
+use Rattle.page.specs.declared.Screen.{Screen}
+use Rattle.page.specs.Pages.{withPen}
 
 -- "FF: rows 1 to 24 blank, row 0 kept"
 abbrev pub blanked : Screen → Pen → Screen

@@ -2,6 +2,7 @@
 use mathlib.Core.Bool.{Bool, true, false, _&&_, cond}
 use Prim.Native.Nat.{ℕ}
 use lib.Dec.{ltb, eqb}
+use Rattle.cursor.specs.Places.{indexOf}
 use Rattle.sequences.specs.Hearing.{isFree}
 use Rattle.attributes.specs.declared.Waiting.{Waiting}
 use Rattle.attributes.specs.declared.Waiting.the-variants.{Nothing, Ground}
@@ -12,7 +13,6 @@ use Rattle.planning.specs.declared.Asked.the-variants.{Nothing as NothingAsked,
 use Rattle.planning.specs.Planning.{planned}
 use Rattle.screen.specs.declared.turns.Turn.{Turn}
 use Rattle.screen.specs.declared.turns.Turn.the-variants.{Moved, Typed, More}
-use Rattle.screen.specs.Screens.{indexOf}
 
 abbrev pub isNone : Waiting → Bool
 isNone Nothing = true

@@ -1,28 +1,18 @@
-// The forty-column screen, by value (01, "Screen cells"): a thousand cells and the pen that writes them.
+// What values do to a screen (01, "Screen cells").
 //
 // `step` takes one value and `run` a piece of them; both take any state and any values, and hand back the next state
-// with the answer: a broken state, or a value above 127, is refused and changes nothing. `cell` and `cursor` read.
-// specs/Screens says what one value does to a screen, specs/Ranges which states are in range, specs/Calls what each
-// call answers and hands back; proofs/ holds their laws.
+// with the answer: a broken state, or a value above 127, is refused and changes nothing. specs/Screens says what one
+// value does to a screen, specs/Calls what each call answers and hands back; proofs/ holds their laws.
 ghost use mathlib.Core.Path.{_≡_};
-ghost use Rattle.screen.specs.Screens.{freshScreen};
-ghost use Rattle.screen.specs.Calls.{stepped};
+ghost use Rattle.screen.specs.Calls.{stepped, ran};
 
-mod broken;
 mod drawing;
 mod pieces;
-mod reading;
 mod turns;
 
-use cells::Cell;
-use cursor::Place;
-use pen::Pen;
-
-pub struct Screen {
-    // Row 0 first, its columns 1 to 40, then row 1.
-    pub cells: [Cell; 1000],
-    pub pen: Pen,
-}
+use drawing::apply;
+use page::Screen;
+use pieces::advance;
 
 // What a call answers: the paper's 0, 2 and 5.
 pub enum Answer {
@@ -42,56 +32,53 @@ pub struct Ran {
     pub answer: Answer,
 }
 
-// What reading a cell gives.
-pub enum Read {
-    Broken,
-    // No such place on the screen.
-    Off,
-    There(Cell),
-}
-
-// What reading the cursor gives.
-pub enum Cursor {
-    Broken,
-    Hidden(Place),
-    Shown(Place),
-}
-
-impl Screen {
-    // A thousand blank cells, and the pen at its start.
-    pub fn fresh() -> Screen
-        ensures { λ r. ⌜ r ≡ freshScreen ⌝ }
-    {
-        let blank = cells::blank();
-        let cells = [blank; 1000];
-        let pen = Pen::fresh();
-        Screen { cells, pen }
-    }
-
-    // One value.
-    pub fn step(self, value: u8) -> Stepped
-        ensures { λ r. ⌜ r ≡ stepped self value ⌝ }
-    {
-        let broken = self.is_broken();
-        if broken {
-            return Stepped {
-                screen: self,
-                answer: Answer::Broken,
-            };
-        }
-        if 127 < value {
-            return Stepped {
-                screen: self,
-                answer: Answer::TooLarge(0),
-            };
-        }
-        let planned = planning::plan(self.pen, value);
-        let pen = planned.pen;
-        let asked = planned.asked;
-        let screen = self.apply(pen, asked);
-        Stepped {
+// One value.
+pub fn step(screen: Screen, value: u8) -> Stepped
+    ensures { λ r. ⌜ r ≡ stepped screen value ⌝ }
+{
+    let broken = screen.is_broken();
+    if broken {
+        return Stepped {
             screen,
-            answer: Answer::Taken,
-        }
+            answer: Answer::Broken,
+        };
+    }
+    if 127 < value {
+        return Stepped {
+            screen,
+            answer: Answer::TooLarge(0),
+        };
+    }
+    let planned = planning::plan(screen.pen, value);
+    let pen = planned.pen;
+    let asked = planned.asked;
+    let screen = apply(screen, pen, asked);
+    Stepped {
+        screen,
+        answer: Answer::Taken,
+    }
+}
+
+// A piece of values: all of them or, where the state is broken or a value is above 127, none.
+pub fn run(screen: Screen, values: &[u8]) -> Ran
+    ensures { λ r. ⌜ r ≡ ran screen (now (values .entry)) ⌝ }
+{
+    if screen.is_broken() {
+        return Ran {
+            screen,
+            answer: Answer::Broken,
+        };
+    }
+    let at = values::first_large(values);
+    if at < values.len() {
+        return Ran {
+            screen,
+            answer: Answer::TooLarge(at),
+        };
+    }
+    let screen = advance(screen, values);
+    Ran {
+        screen,
+        answer: Answer::Taken,
     }
 }

@@ -2,11 +2,9 @@
 ghost use mathlib.Core.Path.{_≡_};
 ghost use mathlib.Core.Bool.{true};
 ghost use Prim.Native.Nat.{_≤_};
-ghost use Rattle.cursor.specs.Places.{On};
 ghost use Rattle.pen.specs.Pens.{InPen};
 ghost use Rattle.pen.specs.Strokes.{stroke};
 ghost use Rattle.screen.specs.Turns.{isPlain, turnFor, turned};
-use crate::drawing::index;
 use attributes::Waiting;
 use cells::Cell;
 use cursor::Place;
@@ -78,7 +76,6 @@ pub(crate) fn write_plainly(pen: Pen, value: u8) -> Stroke
 
 // What is planned, told: a character written once is a cell to store.
 fn settle(pen: Pen, asked: Asked) -> Turn
-    requires { ⌜ On (pen .place) ⌝ }
     ensures { λ r. ⌜ r ≡ turnFor pen asked ⌝ }
 {
     match asked {
@@ -86,7 +83,7 @@ fn settle(pen: Pen, asked: Asked) -> Turn
         Asked::Blank => Turn::More { pen, asked },
         Asked::Put { set, code, times } => {
             if times == 1 {
-                let at = index(pen.place);
+                let at = pen.place.index();
                 let stroke = pen.write(set, code);
                 return Turn::Typed { at, stroke };
             }

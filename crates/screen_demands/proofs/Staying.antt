@@ -2,7 +2,8 @@
 use mathlib.Core.Path.{refl}
 use mathlib.Core.List.{[], _∷_}
 use Rattle.planning.specs.Obeying.{gone, obeyed}
-use Rattle.screen.specs.Screens.{freshScreen, written, writtenTimes, applied, advanced, advancedBy}
+use Rattle.page.specs.Pages.{freshScreen}
+use Rattle.screen.specs.Screens.{written, writtenTimes, applied, advanced, advancedBy}
 use Rattle.screen.specs.Claims.{enteringRow0, StaysInRow0, done, next}
 
 pub met : StaysInRow0 (advancedBy freshScreen (enteringRow0 1 0 65)) (65 ∷ 13 ∷ [])

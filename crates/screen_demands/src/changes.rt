@@ -18,10 +18,11 @@ ghost use Rattle.pen.specs.declared.Last.the-variants.{Never, Character};
 ghost use Rattle.planning.specs.Planning.{ordered};
 ghost use Rattle.planning.specs.Grounds.{fate, outcome};
 ghost use Rattle.planning.specs.Reach.{writes, clears};
-ghost use Rattle.screen.specs.declared.Screen.{Screen};
+ghost use Rattle.page.specs.declared.Screen.{Screen};
+ghost use Rattle.page.specs.Pages.{cellAt};
+ghost use Rattle.page.specs.Ranges.{InScreen};
 ghost use Rattle.screen.specs.declared.Answer.the-variants.{Taken};
-ghost use Rattle.screen.specs.Screens.{cellAt, written, writtenTimes, advanced};
-ghost use Rattle.screen.specs.Ranges.{InScreen};
+ghost use Rattle.screen.specs.Screens.{written, writtenTimes, advanced};
 ghost use Rattle.screen.specs.Calls.{stepsTo, stepped};
 ghost use Rattle.screen.specs.Claims.{onwards, Among, ended};
 

@@ -6,8 +6,9 @@ ghost use Rattle.cursor.specs.declared.Place.{Place};
 ghost use Rattle.motion.specs.Moves.{leftOf, rightOf, upOf, downOf, firstOf};
 ghost use Rattle.motion.specs.Rows.{SameSide};
 ghost use Rattle.sequences.specs.declared.Sequence.the-variants.{Separator};
-ghost use Rattle.screen.specs.declared.Screen.{Screen};
-ghost use Rattle.screen.specs.Screens.{freshScreen, advanced, advancedBy};
+ghost use Rattle.page.specs.declared.Screen.{Screen};
+ghost use Rattle.page.specs.Pages.{freshScreen};
+ghost use Rattle.screen.specs.Screens.{advanced, advancedBy};
 ghost use Rattle.screen.specs.Claims.{enteringRow0, StaysInRow0};
 
 // BS, HT, VT, CR and a character leave the cursor in row 0 where it is there, and below row 0 where it is below; LF

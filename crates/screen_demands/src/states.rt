@@ -6,12 +6,12 @@ ghost use mathlib.Core.List.{List, [], _∷_};
 ghost use Prim.Native.Nat.{ℕ, _≤_, _<_};
 ghost use lib.ListN.{length};
 ghost use Rattle.values.specs.Large.{firstLarge};
-ghost use Rattle.screen.specs.declared.Screen.{Screen};
+ghost use Rattle.page.specs.declared.Screen.{Screen};
+ghost use Rattle.page.specs.Pages.{freshScreen};
+ghost use Rattle.page.specs.Ranges.{broken, InScreen};
+ghost use Rattle.page.specs.Reading.{read, pointed, readNumber, cursorNumber};
 ghost use Rattle.screen.specs.declared.Answer.the-variants.{TooLarge, Broken};
-ghost use Rattle.screen.specs.Screens.{freshScreen};
-ghost use Rattle.screen.specs.Ranges.{broken, InScreen};
 ghost use Rattle.screen.specs.Calls.{told, stepsTo, stepped, runsTo, ran, runTold};
-ghost use Rattle.screen.specs.Calls.{read, pointed, readNumber, cursorNumber};
 
 // A call's number, and the place that it names, come of the paper's conditions in their order: 5 for a state outside
 // its ranges, then 2 for a value above 127, at its lowest place, and else 0. A step is refused as the run over its one

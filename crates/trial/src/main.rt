@@ -21,9 +21,9 @@ mod words;
 
 use lines::At;
 use lines::LONGEST;
+use page::Screen;
 use parts::first;
 use receiver::Receiver;
-use screen::Screen;
 use words::NONE;
 use words::after;
 use words::part;

@@ -17,9 +17,9 @@ use crate::words::field;
 use crate::words::number;
 use crate::words::part;
 use crate::words::place_among;
+use page::Read;
+use page::Screen;
 use screen::Answer;
-use screen::Read;
-use screen::Screen;
 
 // As many values as a run may have.
 const LONGEST_RUN: usize = 4000;
@@ -95,7 +95,7 @@ fn put(state: Screen) -> Screen {
 
 // `byte HH`.
 fn take(now: Screen, value: u8) -> Screen {
-    let done = now.step(value);
+    let done = screen::step(now, value);
     let answer = done.answer;
     let next = done.screen;
     write_answer(answer);
@@ -111,7 +111,7 @@ fn take_all(word: &[u8], now: Screen, known: &mut bool) -> Screen {
         *known = false;
         return now;
     }
-    let done = now.run(first(&values, n));
+    let done = screen::run(now, first(&values, n));
     let answer = done.answer;
     let next = done.screen;
     write_answer(answer);

@@ -4,7 +4,6 @@ use borrow.Author.Needs.{needs}
 use Rattle.pen.proofs.Stays.{pen-true}
 use Rattle.planning.specs.declared.Planned.{Planned}
 use Rattle.planning.specs.Planning.{planned}
-use Rattle.planning.proofs.Stays.{planned-in}
 use Rattle.planning.proofs.Plans.{plan-tested}
 use Rattle.screen.specs.Turns.{turnFor, turned}
 use Rattle.screen.proofs.turns.take.Statement.{statement}
@@ -19,8 +18,7 @@ as-planned c =
     c .plan .ensures ∙ plan-tested (s .args .pen) (s .args .value) (pen-true (s .args .pen) (s .pre .0)) (s .pre .1)
 
 settle-requires : tie.Need-settle-requires
-settle-requires c κs =
-    let s = c .before .before in rw (as-planned (c .before)) (planned-in _ (s .pre .1) (s .pre .0) .pen .place)
+settle-requires c κs = search needs
 
 returns : tie.Need-returns
 unfolding turned

@@ -1,7 +1,8 @@
 -- The theorem is proved where its words are. Assumes nothing.
 use mathlib.Core.Path.{sym, refl}
+use Rattle.page.proofs.Unread.{reads-broken}
 use Rattle.screen.proofs.Answers.{ran-large}
-use Rattle.screen.proofs.Given.{run-told, step-told, step-broken, run-broken, reads-broken, step-large}
+use Rattle.screen.proofs.Given.{run-told, step-told, step-broken, run-broken, step-large}
 use Rattle.screen_demands.proofs.states.each_call_gives_its_number.Statement.{statement}
 use Rattle.screen_demands.proofs.states.each_call_gives_its_number.Tie as tie
 

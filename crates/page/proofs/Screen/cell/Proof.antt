@@ -1,4 +1,4 @@
--- `screen::Screen::cell` meets its contract: a place on the screen has its cell among the thousand. Assumes nothing.
+-- `page::Screen::cell` meets its contract: a place on the screen has its cell among the thousand. Assumes nothing.
 use mathlib.Core.Path.{_≡_, sym, ap, _∙_}
 use Prim.Native.Nat.{ℕ}
 use native.Mathlib.Omega.{arith}
@@ -7,13 +7,13 @@ use borrow.Author.Needs.{needs}
 use Rattle.laws.proofs.Lists.{getD-any, length-mapped}
 use Rattle.cursor.specs.Places.{at, On}
 use Rattle.cursor.proofs.Tested.{true-on}
+use Rattle.cursor.proofs.Tested.{index-low}
 use Rattle.cells.specs.Characters.{blankOf}
 use Rattle.sheet.proofs.Stays.{noCell}
-use Rattle.screen.specs.Screens.{cellAt}
-use Rattle.screen.specs.Calls.{read}
-use Rattle.screen.proofs.Stays.{index-low}
-use Rattle.screen.proofs.Screen.cell.Statement.{statement}
-use Rattle.screen.proofs.Screen.cell.Tie as tie
+use Rattle.page.specs.Pages.{cellAt}
+use Rattle.page.specs.Reading.{read}
+use Rattle.page.proofs.Screen.cell.Statement.{statement}
+use Rattle.page.proofs.Screen.cell.Tie as tie
 
 is-broken-requires : tie.Need-is-broken-requires
 is-broken-requires c κs = search needs
@@ -31,7 +31,7 @@ on : (c : tie.Then2)
 on c = true-on _ (sym (c .before .on-screen .ensures) ∙ c .if2 .taken)
 
 index-requires : tie.Need-index-requires
-index-requires c κs = on c
+index-requires c κs = search needs
 
 mul-cell : tie.Need-mul-cell
 mul-cell c = search needs

@@ -4,7 +4,7 @@ use mathlib.Core.Bool.{Bool, _&&_, not}
 use lib.ListN.{length}
 use Rattle.sheet.specs.Within.{allGood, AllIn}
 use Rattle.pen.specs.Pens.{inRange as penInRange, InPen}
-use Rattle.screen.specs.declared.Screen.{Screen}
+use Rattle.page.specs.declared.Screen.{Screen}
 
 -- the test
 unfoldable pub inRange : Screen → Bool

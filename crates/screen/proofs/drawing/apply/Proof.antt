@@ -1,7 +1,7 @@
 use Rattle.screen.specs.Screens.{applied}
 use borrow.Author.Needs.{needs}
-use Rattle.screen.proofs.Screen.apply.Statement.{statement}
-use Rattle.screen.proofs.Screen.apply.Tie as tie
+use Rattle.screen.proofs.drawing.apply.Statement.{statement}
+use Rattle.screen.proofs.drawing.apply.Tie as tie
 
 -- src/drawing.rt:44:31
 enum-told : tie.Need-enum-told

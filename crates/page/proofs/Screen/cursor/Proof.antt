@@ -1,8 +1,8 @@
--- `screen::Screen::cursor` meets its contract. Assumes nothing.
+-- `page::Screen::cursor` meets its contract. Assumes nothing.
 use borrow.Author.Needs.{needs}
-use Rattle.screen.specs.Calls.{pointed}
-use Rattle.screen.proofs.Screen.cursor.Statement.{statement}
-use Rattle.screen.proofs.Screen.cursor.Tie as tie
+use Rattle.page.specs.Reading.{pointed}
+use Rattle.page.proofs.Screen.cursor.Statement.{statement}
+use Rattle.page.proofs.Screen.cursor.Tie as tie
 
 is-broken-requires : tie.Need-is-broken-requires
 is-broken-requires c κs = search needs

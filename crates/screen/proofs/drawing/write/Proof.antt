@@ -1,4 +1,4 @@
--- `screen::Screen::write` meets its contract: each turn writes one more. Assumes nothing.
+-- `screen::drawing::write` meets its contract: each turn writes one more. Assumes nothing.
 use mathlib.Core.Path.{_≡_, refl, sym, ap, ap₂, _∙_}
 use Prim.Native.Nat.{ℕ, _-_, _≤_, _<_, zero-le}
 use native.Mathlib.Omega.{arith}
@@ -6,14 +6,15 @@ use native.Mathlib.Numerals.{add-one}
 use lib.ListN.{set}
 use borrow.Author.Needs.{needs}
 use Rattle.cursor.specs.Places.{On}
+use Rattle.cursor.specs.Places.{indexOf}
+use Rattle.cursor.proofs.Tested.{index-low}
 use Rattle.motion.proofs.Stays.{right-on}
 use Rattle.pen.specs.declared.Stroke.{Stroke}
 use Rattle.pen.specs.Strokes.{stroke}
-use Rattle.screen.specs.declared.Screen.{Screen}
-use Rattle.screen.specs.Screens.{indexOf, written, writtenTimes}
-use Rattle.screen.proofs.Stays.{index-low}
-use Rattle.screen.proofs.Screen.write.Statement.{statement}
-use Rattle.screen.proofs.Screen.write.Tie as tie
+use Rattle.page.specs.declared.Screen.{Screen}
+use Rattle.screen.specs.Screens.{written, writtenTimes}
+use Rattle.screen.proofs.drawing.write.Statement.{statement}
+use Rattle.screen.proofs.drawing.write.Tie as tie
 
 -- a screen with what a stroke leaves
 abbrev laid : Screen → ℕ → Stroke → Screen
@@ -61,11 +62,11 @@ loop-again c =
     let i = w .before .before in
     let l = i .before .before .before in
     let a = l .before .args in
-    let e : i .index .result ≡ indexOf (l .loop .self .pen .place) = i .index .ensures in
-    let f : w .write .result ≡ stroke (l .loop .self .pen) (a .set) (a .code) = w .write .ensures in (
+    let e : i .index .result ≡ indexOf (l .loop .screen .pen .place) = i .index .ensures in
+    let f : w .write .result ≡ stroke (l .loop .screen .pen) (a .set) (a .code) = w .write .ensures in (
       search needs,
       rw f (right-on (l .loop .inv .1)),
-      ap₂ (laid (l .loop .self)) e f ∙ ap (λ (x : Screen). written x (a .set) (a .code)) (l .loop .inv .2)
+      ap₂ (laid (l .loop .screen)) e f ∙ ap (λ (x : Screen). written x (a .set) (a .code)) (l .loop .inv .2)
           ∙ ap (writtenTimes (a .t1) (a .set) (a .code)) (sym (add-one (l .loop .done))),
     )
 

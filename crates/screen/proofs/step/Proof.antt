@@ -1,4 +1,4 @@
--- `screen::Screen::step` meets its contract: the range was tested, so the plan is that of a pen in range. Assumes
+-- `screen::step` meets its contract: the range was tested, so the plan is that of a pen in range. Assumes
 -- nothing.
 use mathlib.Core.Path.{_≡_, sym, _∙_}
 use borrow.Author.Tests.{le-ltb, lt-ltb}
@@ -8,11 +8,11 @@ use Rattle.pen.proofs.Stays.{pen-true}
 use Rattle.planning.specs.Planning.{planned}
 use Rattle.planning.proofs.Stays.{planned-in}
 use Rattle.planning.proofs.Plans.{plan-tested}
+use Rattle.page.proofs.Stays.{whole, true-pen-in}
 use Rattle.screen.specs.Screens.{advanced}
 use Rattle.screen.specs.Calls.{stepped}
-use Rattle.screen.proofs.Stays.{whole, true-pen-in}
-use Rattle.screen.proofs.Screen.step.Statement.{statement}
-use Rattle.screen.proofs.Screen.step.Tie as tie
+use Rattle.screen.proofs.step.Statement.{statement}
+use Rattle.screen.proofs.step.Tie as tie
 
 is-broken-requires : tie.Need-is-broken-requires
 is-broken-requires c κs = search needs
@@ -29,18 +29,18 @@ plan-requires : tie.Need-plan-requires
 plan-requires c κs = search needs
 
 -- the pen handed in
-good : (c : tie.Else1) → InPen (c .before .before .args .self .pen)
+good : (c : tie.Else1) → InPen (c .before .before .args .screen .pen)
 good c =
-    let s = c .before .before .args .self in
+    let s = c .before .before .args .screen in
     true-pen-in s (whole s (sym (c .before .is-broken .ensures) ∙ c .if1 .left))
 
 as-planned : (c : tie.After-plan)
     → c .plan .result
-    ≡ planned (c .before .before .before .before .args .self .pen) (c .before .before .before .before .args .value)
+    ≡ planned (c .before .before .before .before .args .screen .pen) (c .before .before .before .before .args .value)
 as-planned c =
     let n = c .before .before in
     let a = n .before .before .args in
-    c .plan .ensures ∙ plan-tested (a .self .pen) (a .value) (pen-true (a .self .pen) (good n)) (c .before .if2 .left)
+    c .plan .ensures ∙ plan-tested (a .screen .pen) (a .value) (pen-true (a .screen .pen) (good n)) (c .before .if2 .left)
 
 apply-requires : tie.Need-apply-requires
 apply-requires c κs =

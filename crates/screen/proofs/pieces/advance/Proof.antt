@@ -1,4 +1,4 @@
--- `screen::Screen::advance` meets its contract: each turn is one step, with the pen carried beside the cells. Assumes
+-- `screen::pieces::advance` meets its contract: each turn is one step, with the pen carried beside the cells. Assumes
 -- nothing.
 use mathlib.Core.Path.{_≡_, refl, sym, ap, ap₂, _∙_}
 use mathlib.Core.Bool.{true}
@@ -8,17 +8,20 @@ use lib.ListN.{length, take, getD}
 use lib.Seq.{take-all}
 use borrow.Author.Needs.{needs}
 use Rattle.laws.proofs.Lists.{length-mapped}
-use Rattle.screen.specs.declared.Screen.{Screen}
+use Rattle.cursor.proofs.Tested.{index-low}
+use Rattle.page.specs.declared.Screen.{Screen}
+use Rattle.page.specs.Pages.{withPen}
+use Rattle.page.specs.Ranges.{InScreen}
+use Rattle.page.proofs.Stays.{true-screen}
 use Rattle.screen.specs.declared.turns.Turn.{Turn}
 use Rattle.screen.specs.declared.turns.Turn.the-variants.{Typed}
-use Rattle.screen.specs.Screens.{withPen, advanced, advancedBy}
-use Rattle.screen.specs.Ranges.{InScreen}
+use Rattle.screen.specs.Screens.{advanced, advancedBy}
 use Rattle.screen.specs.Turns.{isPlain, turned}
-use Rattle.screen.proofs.Stays.{index-low, true-screen, advanced-in}
+use Rattle.screen.proofs.Stays.{advanced-in}
 use Rattle.screen.proofs.Steps.{by-one}
 use Rattle.screen.proofs.Beside.{done, turn-step, plain-turn, Fitting, turn-fits}
-use Rattle.screen.proofs.Screen.advance.Statement.{statement}
-use Rattle.screen.proofs.Screen.advance.Tie as tie
+use Rattle.screen.proofs.pieces.advance.Statement.{statement}
+use Rattle.screen.proofs.pieces.advance.Tie as tie
 
 abbrev Inv-loop : tie.InvT-loop
 Inv-loop values screen₀ pen₀ i₀ screen pen i =
@@ -31,8 +34,8 @@ loop-holds : tie.Need-loop-holds Inv-loop μ-loop
 unfolding advancedBy
 loop-holds c =
     let d = c .before .before in
-    let n : length (d .args .self .cells) ≡ 1000 = search (length-mapped, d .good .0) in
-    (zero-le, true-screen (d .args .self) n (d .pre .0), refl)
+    let n : length (d .args .start .cells) ≡ 1000 = search (length-mapped, d .good .0) in
+    (zero-le, true-screen (d .args .start) n (d .pre .0), refl)
 
 shared-slice-read-value : tie.Need-shared-slice-read-value Inv-loop μ-loop
 shared-slice-read-value c = search needs
@@ -56,7 +59,7 @@ again : (c : tie.In-loop Inv-loop μ-loop) (t : Turn)
     ≡ turned (c .before .loop .pen) (getD (c .before .before .before .before .args .values .now) (c .before .loop .i) 0)
     → InScreen (done (c .before .loop .screen) t)
     × (done (c .before .loop .screen) t
-    ≡ advancedBy (c .before .before .before .before .args .self)
+    ≡ advancedBy (c .before .before .before .before .args .start)
     (take (c .before .loop .i + 1) (c .before .before .before .before .args .values .now)))
 again c t e =
     let l = c .before in
@@ -65,7 +68,7 @@ again c t e =
     let f = turn-step (l .loop .screen) (l .loop .pen) v t e in (
       rw f (advanced-in v (small c) (l .loop .inv .1)),
       f ∙ ap (λ (x : Screen). advanced x v) (l .loop .inv .2)
-          ∙ sym (by-one (a .self) (a .values .now) (l .loop .i) (c .loop-test .taken)),
+          ∙ sym (by-one (a .start) (a .values .now) (l .loop .i) (c .loop-test .taken)),
     )
 
 is-plain-requires : tie.Need-is-plain-requires Inv-loop μ-loop
@@ -74,7 +77,7 @@ is-plain-requires c κs = search needs
 -- ---- a character that is simply written
 
 index-requires : tie.Need-index-requires Inv-loop μ-loop
-index-requires c κs = c .before .before .before .before .loop .inv .1 .pen .place
+index-requires c κs = search needs
 
 plain : (c : tie.Then1 Inv-loop μ-loop)
     → isPlain (c .before .before .before .before .loop .pen)
@@ -177,7 +180,7 @@ returns c =
     let l = c .before in
     let a = l .before .before .before .args in
     let h : length (a .values .now) ≤ l .loop .i = c .loop-test .left in
-    l .loop .inv .2 ∙ ap (advancedBy (a .self)) (take-all (l .loop .i) (a .values .now) h)
+    l .loop .inv .2 ∙ ap (advancedBy (a .start)) (take-all (l .loop .i) (a .values .now) h)
 
 pub advance-spec : {M : Type 1} → statement M
 advance-spec =

@@ -1,17 +1,17 @@
--- `screen::Screen::run` meets its contract. Assumes nothing.
+-- `screen::run` meets its contract. Assumes nothing.
 use mathlib.Core.Path.{sym, ap, _∙_, subst}
 use Prim.Native.Nat.{ℕ, _≤_}
 use lib.ListN.{length}
 use borrow.Author.Needs.{needs}
 use Rattle.values.specs.Large.{firstLarge}
 use Rattle.values.proofs.Found.{all-small}
-use Rattle.screen.specs.declared.Screen.{Screen}
+use Rattle.page.specs.declared.Screen.{Screen}
+use Rattle.page.proofs.Stays.{whole}
 use Rattle.screen.specs.declared.Answer.the-variants.{Taken}
 use Rattle.screen.specs.Calls.{runsTo, ran}
-use Rattle.screen.proofs.Stays.{whole}
 use Rattle.screen.proofs.Answers.{ran-large, ran-taken}
-use Rattle.screen.proofs.Screen.run.Statement.{statement}
-use Rattle.screen.proofs.Screen.run.Tie as tie
+use Rattle.screen.proofs.run.Statement.{statement}
+use Rattle.screen.proofs.run.Tie as tie
 
 is-broken-requires : tie.Need-is-broken-requires
 is-broken-requires c κs = search needs
@@ -28,7 +28,7 @@ returns-2 c =
     let f = c .before in
     let n = f .before in
     let a = n .before .before .before .args in
-    ran-large (a .self) (a .values .now) (sym (n .before .is-broken .ensures) ∙ n .if1 .left)
+    ran-large (a .screen) (a .values .now) (sym (n .before .is-broken .ensures) ∙ n .if1 .left)
     (f .first-large .result) (f .first-large .ensures) (c .if2 .taken)
 
 -- no value is too large
@@ -49,7 +49,7 @@ returns-3 c =
     let n = c .before .before .before in
     let a = n .before .before .before .args in
     ap (λ (x : Screen). runsTo x Taken) (c .advance .ensures)
-    ∙ ran-taken (a .self) (a .values .now) (sym (n .before .is-broken .ensures) ∙ n .if1 .left) (small (c .before))
+    ∙ ran-taken (a .screen) (a .values .now) (sym (n .before .is-broken .ensures) ∙ n .if1 .left) (small (c .before))
 
 pub run-spec : {M : Type 1} → statement M
 run-spec =

@@ -1,0 +1,20 @@
+-- A screen: fresh, its cells by their places (01, "Screen cells"). Assumes nothing.
+use lib.ListN.{getD, replicate}
+use Rattle.cursor.specs.declared.Place.{Place}
+use Rattle.cursor.specs.Places.{indexOf}
+use Rattle.cells.specs.declared.Cell.{Cell}
+use Rattle.cells.specs.Characters.{blankOf}
+use Rattle.pen.specs.declared.Pen.{Pen}
+use Rattle.pen.specs.Pens.{freshPen}
+use Rattle.page.specs.declared.Screen.{Screen}
+
+-- "a fresh screen is 1,000 equal cells"
+unfoldable pub freshScreen : Screen
+freshScreen = record { cells = replicate 1000 blankOf; pen = freshPen }
+
+-- the cell at a place
+abbrev pub cellAt : Screen → Place → Cell
+cellAt s x = getD (s .cells) (indexOf x) blankOf
+
+abbrev pub withPen : Screen → Pen → Screen
+withPen s p = record { cells = s .cells; pen = p }

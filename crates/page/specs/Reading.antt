@@ -1,0 +1,30 @@
+-- What reading a screen gives, for any state (01, "Numbers given"). Assumes nothing.
+use mathlib.Core.Bool.{cond}
+use mathlib.Core.List.{List, [], _∷_}
+use Prim.Native.Nat.{ℕ}
+use Rattle.cursor.specs.Places.{at, onScreen}
+use Rattle.page.specs.declared.Screen.{Screen}
+use Rattle.page.specs.declared.Read.{Read}
+use Rattle.page.specs.declared.Read.the-variants.{Broken as Unread, Off, There}
+use Rattle.page.specs.declared.Cursor.{Cursor}
+use Rattle.page.specs.declared.Cursor.the-variants.{Broken as Lost, Hidden, Shown}
+use Rattle.page.specs.Pages.{cellAt}
+use Rattle.page.specs.Ranges.{broken}
+
+-- a place off the screen has an answer of its own
+unfoldable pub read : Screen → ℕ → ℕ → Read
+read s r c = cond (broken s) Unread (cond (onScreen (at r c)) (There (cellAt s (at r c))) Off)
+
+unfoldable pub pointed : Screen → Cursor
+pointed s = cond (broken s) Lost (cond (s .pen .shown) (Shown (s .pen .place)) (Hidden (s .pen .place)))
+
+-- the paper's number of what is read; a place off the screen has none
+abbrev pub readNumber : Read → List ℕ
+readNumber Unread = 5 ∷ []
+readNumber Off = []
+readNumber (There c) = 0 ∷ []
+
+abbrev pub cursorNumber : Cursor → List ℕ
+cursorNumber Lost = 5 ∷ []
+cursorNumber (Hidden x) = 0 ∷ []
+cursorNumber (Shown x) = 0 ∷ []
