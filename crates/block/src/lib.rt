@@ -1,6 +1,6 @@
 // The block of seventeen bytes, made and read: all that a caller needs. `make`, `values`, `mend` and `with_parity` are
-// handed on from where they are built; `judge` is `mend` in the form that 01 names, "A form for each place": it hands back
-// the first fifteen bytes of the lent block itself. proofs/Returned ties the two ends together: what the maker
+// handed on from where they are built; `judge` is `mend` in the form that 01 names, "A form for each place": it hands
+// back the first fifteen bytes of the lent block itself. proofs/Returned ties the two ends together: what the maker
 // writes the reader hands back, and what is read clean the maker writes.
 ghost use mathlib.Core.Path.{_≡_};
 ghost use Rattle.reader.specs.Judging.{judged, handed, bitNamed};

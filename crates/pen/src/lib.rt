@@ -2,8 +2,8 @@
 // kept for the return from row 0, the last character, the unfinished sequence, and whether the cursor is shown.
 //
 // `write` is one character written: its cell, and the pen after it. specs/Pens says what a pen is and which are in
-// range, specs/Strokes what a character does. The test of the ranges is in the crate `ranges`, and what a value does to a
-// pen in `planning`.
+// range, specs/Strokes what a character does. The test of the ranges is in the crate `ranges`, and what a value does to
+// a pen in `planning`.
 ghost use mathlib.Core.Path.{_≡_};
 ghost use Rattle.pen.specs.Pens.{freshPen};
 ghost use Rattle.pen.specs.Strokes.{stroke as strokeOf};

@@ -26,7 +26,6 @@ use Rattle.receiver.specs.Calls.{padded, silent, stepped}
 use Rattle.receiver.specs.Runs.{byte, run, Sent, sentBy, sent, allPassed, allAsked, unswitched}
 use Rattle.receiver.specs.Runs.{bytesOf}
 use Rattle.receiver.specs.Page.{whileWaiting, awaiting}
-use Rattle.receiver.specs.Line.{twice}
 use Rattle.receiver.specs.Line.{Arrives, nothingMore}
 use Rattle.receiver.specs.Line.{blockThen}
 use Rattle.receiver.proofs.Kept.{emptied-in, runs-keep, run-append, sent-append}

@@ -1,5 +1,5 @@
--- The line whole: made blocks come through, and however often one is hit twice and sent again, each passes once. Assumes
--- nothing.
+-- The line whole: made blocks come through, and however often one is hit twice and sent again, each passes once.
+-- Assumes nothing.
 use mathlib.Core.Path.{_≡_, refl, sym, ap, _∙_, subst, subst⁻¹}
 use mathlib.Core.List.{List, [], _∷_, _++_, map, append-assoc, append-nil, head-eq-of-cons-eq}
 use Prim.Native.Nat.{ℕ, _+_, _*_, _%_, _<_}

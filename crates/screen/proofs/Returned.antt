@@ -1,7 +1,7 @@
 -- Row 0: LF there brings back what stood just before the US that entered it. Assumes nothing.
 use mathlib.Core.Path.{_≡_, refl, ap, _∙_}
 use mathlib.Core.List.{List, [], _∷_, _++_}
-use Prim.Native.Nat.{ℕ, zero, suc, _-_, _≤_}
+use Prim.Native.Nat.{ℕ, zero, suc, _≤_}
 use lib.Dec.{lit≤}
 use lib.ListN.{replicate}
 use Rattle.sequences.specs.declared.Sequence.{Sequence}

@@ -1,29 +1,20 @@
 -- Every step leaves a screen in range. Assumes nothing.
-use mathlib.Core.Path.{_≡_, refl, sym, ap, _∙_}
-use mathlib.Core.Bool.{Bool, true, false, not}
-use mathlib.Core.List.{[], _∷_}
-use Prim.Native.Nat.{ℕ, zero, suc, _-_, _≤_, _<_}
-use native.Mathlib.Omega.{arith}
-use lib.ListN.{length, length-set, length-append, length-take, length-replicate}
-use Rattle.laws.proofs.Computed.{each}
-use Rattle.cursor.specs.declared.Place.{Place}
-use Rattle.cursor.specs.Places.{On}
+use mathlib.Core.Path.{_∙_}
+use Prim.Native.Nat.{ℕ, zero, suc, _≤_}
+use lib.ListN.{length-set, length-append, length-take, length-replicate}
 use Rattle.cursor.specs.Places.{indexOf}
-use Rattle.cells.specs.Characters.{blankOf}
 use Rattle.cells.specs.Within.{Character}
 use Rattle.sheet.specs.Clearing.{cleared}
-use Rattle.sheet.specs.Within.{allGood}
-use Rattle.sheet.proofs.Stays.{all-true, true-all, all-set, blanks-in, cleared-in}
+use Rattle.sheet.proofs.Stays.{all-set, cleared-in}
 use Rattle.pen.specs.declared.Pen.{Pen}
-use Rattle.pen.specs.Pens.{inRange as penInRange, InPen}
-use Rattle.pen.proofs.Stays.{pen-true, true-pen, fresh-in, after-in, stroke-cell}
+use Rattle.pen.specs.Pens.{InPen}
+use Rattle.pen.proofs.Stays.{after-in, stroke-cell}
 use Rattle.planning.specs.declared.Asked.{Asked}
 use Rattle.planning.specs.declared.Asked.the-variants.{Nothing, Blank, Put}
 use Rattle.planning.specs.Planning.{planned}
 use Rattle.planning.proofs.Stays.{InAsked, planned-in}
 use Rattle.page.specs.declared.Screen.{Screen}
-use Rattle.page.specs.Pages.{freshScreen}
-use Rattle.page.specs.Ranges.{inRange, broken, InScreen}
+use Rattle.page.specs.Ranges.{InScreen}
 use Rattle.screen.specs.Screens.{written, writtenTimes, applied, advanced}
 
 pub written-in : {s : Screen} (a d : ℕ) → Character a d → InScreen s → InScreen (written s a d)

@@ -38,16 +38,12 @@ pub fn step(screen: Screen, value: u8) -> Stepped
 {
     let broken = screen.is_broken();
     if broken {
-        return Stepped {
-            screen,
-            answer: Answer::Broken,
-        };
+        let answer = Answer::Broken;
+        return Stepped { screen, answer };
     }
     if 127 < value {
-        return Stepped {
-            screen,
-            answer: Answer::TooLarge(0),
-        };
+        let answer = Answer::TooLarge(0);
+        return Stepped { screen, answer };
     }
     let planned = planning::plan(screen.pen, value);
     let pen = planned.pen;

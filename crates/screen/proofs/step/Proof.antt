@@ -40,7 +40,8 @@ as-planned : (c : tie.After-plan)
 as-planned c =
     let n = c .before .before in
     let a = n .before .before .args in
-    c .plan .ensures ∙ plan-tested (a .screen .pen) (a .value) (pen-true (a .screen .pen) (good n)) (c .before .if2 .left)
+    let h = pen-true (a .screen .pen) (good n) in
+    c .plan .ensures ∙ plan-tested (a .screen .pen) (a .value) h (c .before .if2 .left)
 
 apply-requires : tie.Need-apply-requires
 apply-requires c κs =

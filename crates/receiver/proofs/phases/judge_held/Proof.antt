@@ -58,8 +58,9 @@ returns-2 : tie.Need-returns-2
 returns-2 c =
     let t = c .before .before in
     let m = t .before .before .before .before in
+    let v = Block (m .mend .result) in
     c .ask .ensures
-    ∙ ap (λ (q : Receiver). giving 0 q [] (request (q .number)) (Block (m .mend .result))) (c .before .emptied2 .ensures)
+    ∙ ap (λ (q : Receiver). giving 0 q [] (request (q .number)) v) (c .before .emptied2 .ensures)
     ∙ as-judged (was m) (last m) (m .mend .result) (m .mend .last .0) (m .mend .ensures)
     (sym (t .before .accepts .ensures) ∙ t .if1 .left)
 

@@ -1,9 +1,8 @@
 -- `screen::turns::is_plain` meets its contract. Assumes nothing.
-use mathlib.Core.Path.{_≡_, refl, ap}
-use mathlib.Core.Bool.{Bool, false, _&&_}
+use mathlib.Core.Path.{_≡_, refl}
+use mathlib.Core.Bool.{false}
 use mathlib.Core.List.{List, [], _∷_}
 use Prim.Native.Nat.{ℕ}
-use lib.Dec.{ltb}
 use types.Run.{OneOf, miss}
 use denote.Enum.Declared.{tagOf}
 use borrow.Author.Tests.{le-ltb, lt-ltb}
@@ -13,7 +12,7 @@ use Rattle.sequences.specs.declared.Sequence.the-variants.{Free, Escape, Long, 
 use Rattle.sequences.specs.declared.Sequence.the-variants.{Single, Address, Row}
 use Rattle.sequences.specs.Hearing.{isFree}
 use Rattle.sequences.proofs.Sequence.{the-type}
-use Rattle.screen.specs.Turns.{isNone, isPlain}
+use Rattle.screen.specs.Turns.{isPlain}
 use Rattle.screen.proofs.turns.is_plain.Statement.{statement}
 use Rattle.screen.proofs.turns.is_plain.Tie as tie
 
