@@ -35,6 +35,7 @@ pub(crate) fn make(words: &[u8]) -> bool {
     if count > MOST || !good {
         return false;
     }
+    // `number` promises nothing to a proof, so that its largest is asked for once more.
     if room > MOST {
         return false;
     }
