@@ -1,0 +1,77 @@
+-- A status tells which senders reach its receiver, bit by bit, and stands in column 4. Assumes nothing.
+use mathlib.Core.Path.{_≡_, refl}
+use mathlib.Core.Bool.{Bool, true, false, cond}
+use mathlib.Core.List.{[], _∷_, map}
+use Prim.Native.Nat.{ℕ, _/_, _%_, _≤_}
+use native.Mathlib.Omega.{arith}
+use Rattle.wiring.specs.declared.Module.{Module}
+use Rattle.wiring.specs.declared.Module.the-variants.{Screen, Keyboard, Modem, Socket}
+use Rattle.wiring.specs.declared.Table.{Table}
+use Rattle.wiring.specs.Tables.{row, localTable, connectedTable}
+use Rattle.replies.specs.Replies.{shown, columnOf, weighed, summed, statusOf, weightOf}
+
+-- ---- how large it is
+
+pub weighed-top : (on : Bool) (w : ℕ) → weighed on w ≤ w
+weighed-top true w = omega arith
+weighed-top false w = omega arith
+
+pub status-top : (t : Table) (receiver : Module) → statusOf t receiver ≤ 79
+unfolding statusOf
+status-top t receiver =
+    let w = columnOf t receiver in
+    omega (
+      arith,
+      weighed-top (w .socket) 8,
+      weighed-top (w .modem) 4,
+      weighed-top (w .keyboard) 2,
+      weighed-top (w .screen) 1,
+    )
+
+-- ---- its bits
+
+-- of the senders shown, in the order screen, keyboard, modem, socket
+bits : (a b c d : Bool)
+    → (summed (row a b c d) / 16 ≡ 4)
+    × (summed (row a b c d) / 1 % 2 ≡ cond a 1 0)
+    × (summed (row a b c d) / 2 % 2 ≡ cond b 1 0)
+    × (summed (row a b c d) / 4 % 2 ≡ cond c 1 0)
+    × (summed (row a b c d) / 8 % 2 ≡ cond d 1 0)
+bits true true true true = (refl, refl, refl, refl, refl)
+bits true true true false = (refl, refl, refl, refl, refl)
+bits true true false true = (refl, refl, refl, refl, refl)
+bits true true false false = (refl, refl, refl, refl, refl)
+bits true false true true = (refl, refl, refl, refl, refl)
+bits true false true false = (refl, refl, refl, refl, refl)
+bits true false false true = (refl, refl, refl, refl, refl)
+bits true false false false = (refl, refl, refl, refl, refl)
+bits false true true true = (refl, refl, refl, refl, refl)
+bits false true true false = (refl, refl, refl, refl, refl)
+bits false true false true = (refl, refl, refl, refl, refl)
+bits false true false false = (refl, refl, refl, refl, refl)
+bits false false true true = (refl, refl, refl, refl, refl)
+bits false false true false = (refl, refl, refl, refl, refl)
+bits false false false true = (refl, refl, refl, refl, refl)
+bits false false false false = (refl, refl, refl, refl, refl)
+
+pub status-column : (t : Table) (receiver : Module) → statusOf t receiver / 16 ≡ 4
+unfolding statusOf
+status-column t r = bits (shown t r Screen) (shown t r Keyboard) (shown t r Modem) (shown t r Socket) .0
+
+pub status-bit : (t : Table) (receiver sender : Module)
+    → statusOf t receiver / weightOf sender % 2 ≡ cond (shown t receiver sender) 1 0
+unfolding statusOf
+status-bit t r Screen = bits (shown t r Screen) (shown t r Keyboard) (shown t r Modem) (shown t r Socket) .1
+status-bit t r Keyboard = bits (shown t r Screen) (shown t r Keyboard) (shown t r Modem) (shown t r Socket) .2
+status-bit t r Modem = bits (shown t r Screen) (shown t r Keyboard) (shown t r Modem) (shown t r Socket) .3
+status-bit t r Socket = bits (shown t r Screen) (shown t r Keyboard) (shown t r Modem) (shown t r Socket) .4
+
+-- the statuses of screen, keyboard, modem and socket in the two standard tables
+pub local-statuses : map (statusOf localTable) (Screen ∷ Keyboard ∷ Modem ∷ Socket ∷ []) ≡ 77 ∷ 66 ∷ 70 ∷ 74 ∷ []
+unfolding statusOf
+local-statuses = refl
+
+pub connected-statuses : map (statusOf connectedTable) (Screen ∷ Keyboard ∷ Modem ∷ Socket ∷ [])
+    ≡ 69 ∷ 66 ∷ 78 ∷ 76 ∷ []
+unfolding statusOf
+connected-statuses = refl

@@ -1,0 +1,93 @@
+-- "A table says for each pair whether the sender's bytes reach the receiver." (01, "Links and commands"). Assumes
+-- nothing.
+use mathlib.Core.Path.{_≡_}
+use mathlib.Core.Bool.{Bool, true, false, cond, _&&_, _||_}
+use mathlib.Core.List.{List, [], _∷_}
+use Rattle.wiring.specs.declared.Module.{Module}
+use Rattle.wiring.specs.declared.Module.the-variants.{Screen, Keyboard, Modem, Socket}
+use Rattle.wiring.specs.declared.Row.{Row}
+use Rattle.wiring.specs.declared.Table.{Table}
+use Rattle.wiring.specs.Modules.{same}
+
+-- the receivers that one sender reaches, in the order screen, keyboard, modem, socket
+abbrev pub row : Bool → Bool → Bool → Bool → Row
+row a b c d = record { screen = a; keyboard = b; modem = c; socket = d }
+
+abbrev pub rowOf : Table → Module → Row
+rowOf t Screen = t .screen
+rowOf t Keyboard = t .keyboard
+rowOf t Modem = t .modem
+rowOf t Socket = t .socket
+
+abbrev pub marked : Row → Module → Bool
+marked w Screen = w .screen
+marked w Keyboard = w .keyboard
+marked w Modem = w .modem
+marked w Socket = w .socket
+
+-- whether the sender's bytes reach the receiver
+abbrev pub reaches : Table → Module → Module → Bool
+reaches t sender receiver = marked (rowOf t sender) receiver
+
+-- ---- the two standard tables
+
+-- whether a sender and a receiver stand in a list of pairs, each a sender and its receiver
+abbrev pub listed : List (Module × Module) → Module → Module → Bool
+listed [] sender receiver = false
+listed (p ∷ ps) sender receiver = (same sender (p .0) && same receiver (p .1)) || listed ps sender receiver
+
+-- the table that links the pairs of a list and no others
+abbrev pub rowFor : List (Module × Module) → Module → Row
+rowFor ps sender =
+    row (listed ps sender Screen) (listed ps sender Keyboard) (listed ps sender Modem) (listed ps sender Socket)
+
+abbrev pub tableOf : List (Module × Module) → Table
+tableOf ps =
+    record { screen = rowFor ps Screen; keyboard = rowFor ps Keyboard; modem = rowFor ps Modem; socket = rowFor ps Socket }
+
+-- 001, part 2, section 1-2-1: «clavier vers modem», «modem vers écran», «clavier vers prise péri-informatique», «prise
+-- péri-informatique vers écran»
+abbrev pub localPairs : List (Module × Module)
+localPairs = (Keyboard, Modem) ∷ (Modem, Screen) ∷ (Keyboard, Socket) ∷ (Socket, Screen) ∷ []
+
+-- section 1-2-2: «clavier vers modem», «modem vers écran», «modem vers prise péri-informatique», «prise
+-- péri-informatique vers modem»
+abbrev pub connectedPairs : List (Module × Module)
+connectedPairs = (Keyboard, Modem) ∷ (Modem, Screen) ∷ (Modem, Socket) ∷ (Socket, Modem) ∷ []
+
+abbrev pub localTable : Table
+localTable = tableOf localPairs
+
+abbrev pub connectedTable : Table
+connectedTable = tableOf connectedPairs
+
+-- ---- a link set or cleared
+
+-- the row with one receiver set or cleared
+abbrev pub marking : Row → Module → Bool → Row
+marking w Screen on = row on (w .keyboard) (w .modem) (w .socket)
+marking w Keyboard on = row (w .screen) on (w .modem) (w .socket)
+marking w Modem on = row (w .screen) (w .keyboard) on (w .socket)
+marking w Socket on = row (w .screen) (w .keyboard) (w .modem) on
+
+-- the table with one sender's row replaced
+abbrev pub withRow : Table → Module → Row → Table
+withRow t Screen w = record { screen = w; keyboard = t .keyboard; modem = t .modem; socket = t .socket }
+withRow t Keyboard w = record { screen = t .screen; keyboard = w; modem = t .modem; socket = t .socket }
+withRow t Modem w = record { screen = t .screen; keyboard = t .keyboard; modem = w; socket = t .socket }
+withRow t Socket w = record { screen = t .screen; keyboard = t .keyboard; modem = t .modem; socket = w }
+
+abbrev pub relinked : Table → Module → Module → Bool → Table
+relinked t receiver sender on = withRow t sender (marking (rowOf t sender) receiver on)
+
+-- "sets or clears a link"; "A module is never linked to itself; such a command answers with the status unchanged"
+unfoldable pub linked : Table → Module → Module → Bool → Table
+linked t receiver sender on = cond (same receiver sender) t (relinked t receiver sender on)
+
+-- "or links a module to itself"
+unfoldable pub selfLinked : Table → Bool
+selfLinked t = t .screen .screen || (t .keyboard .keyboard || (t .modem .modem || t .socket .socket))
+
+-- no module reaches itself
+abbrev pub NoneItself : Table → Type 0
+NoneItself t = (m : Module) → reaches t m m ≡ false
