@@ -54,6 +54,21 @@ none-large (v ∷ vs) h =
     ap (λ (t : Bool). cond t (suc (firstLarge vs)) 0) (lt-ltb v 128 (h 0 (zero-lt-suc (length vs))))
     ∙ ap suc (none-large vs (λ i l. h (suc i) (omega (arith, l))))
 
+-- ---- values one by one
+
+pub values-none : Values []
+values-none i l = absurd (not-suc-le-zero l)
+
+pub values-cons : (v : ℕ) (vs : List ℕ) → v < 128 → Values vs → Values (v ∷ vs)
+values-cons v vs h k zero l = h
+values-cons v vs h k (suc i) l = k i (le-of-suc-le-suc l)
+
+pub values-head : (v : ℕ) (vs : List ℕ) → Values (v ∷ vs) → v < 128
+values-head v vs h = h 0 (zero-lt-suc (length vs))
+
+pub values-tail : (v : ℕ) (vs : List ℕ) → Values (v ∷ vs) → Values vs
+values-tail v vs h i l = h (suc i) (omega (arith, l))
+
 -- values, then values
 pub values-append : (us vs : List ℕ) → Values us → Values vs → Values (us ++ vs)
 values-append [] vs h k i l = k i l
