@@ -1,0 +1,76 @@
+-- What one value sends, and to whom (01, "Links and commands"). Assumes nothing.
+use mathlib.Core.Bool.{Bool, true, false, cond}
+use mathlib.Core.List.{List, [], _∷_, _++_}
+use Prim.Native.Nat.{ℕ, _-_}
+use lib.ListN.{length, take, replicate}
+use Rattle.wiring.specs.declared.Module.{Module}
+use Rattle.wiring.specs.declared.Module.the-variants.{Screen, Keyboard, Modem, Socket}
+use Rattle.wiring.specs.declared.Row.{Row}
+use Rattle.wiring.specs.declared.Table.{Table}
+use Rattle.wiring.specs.Tables.{row, rowOf}
+use Rattle.replies.specs.Replies.{replyOf}
+use Rattle.commands.specs.declared.Order.{Order}
+use Rattle.commands.specs.declared.Order.the-variants.{Nothing, Pass, Pair, Link, Ask}
+use Rattle.sending.specs.declared.Bytes.{Bytes}
+use Rattle.sending.specs.declared.Sent.{Sent}
+
+-- five places, and how many of them count; those past them are 0
+abbrev pub packed : List ℕ → Bytes
+packed vs = record { codes = vs ++ replicate (5 - length vs) 0; count = length vs }
+
+abbrev pub bytesOf : Bytes → List ℕ
+bytesOf b = take (b .count) (b .codes)
+
+-- to each receiver that a row marks, the same bytes; to the others none
+abbrev pub to : Row → Bytes → Sent
+to w b =
+    record {
+      screen = cond (w .screen) b (packed []);
+      keyboard = cond (w .keyboard) b (packed []);
+      modem = cond (w .modem) b (packed []);
+      socket = cond (w .socket) b (packed []);
+    }
+
+abbrev pub nowhere : Row
+nowhere = row false false false false
+
+-- nothing to anybody
+abbrev pub silence : Sent
+silence = to nowhere (packed [])
+
+abbrev pub onlyTo : Module → Row
+onlyTo Screen = row true false false false
+onlyTo Keyboard = row false true false false
+onlyTo Modem = row false false true false
+onlyTo Socket = row false false false true
+
+-- what is passed on goes by the links of its sender; an answer goes "to the module that sent them and whatever its
+-- links"
+abbrev pub receiversFor : Table → Module → Order → Row
+receiversFor t from Nothing = nowhere
+receiversFor t from (Pass v) = rowOf t from
+receiversFor t from (Pair v) = rowOf t from
+receiversFor t from (Link receiver sender on) = onlyTo from
+receiversFor t from (Ask receiver) = onlyTo from
+
+-- a value; "ESC .. with its next code"; "PRO3, 6/3, receiver and the status code"
+abbrev pub bytesFor : Table → Order → List ℕ
+bytesFor t Nothing = []
+bytesFor t (Pass v) = v ∷ []
+bytesFor t (Pair v) = 27 ∷ v ∷ []
+bytesFor t (Link receiver sender on) = replyOf t receiver
+bytesFor t (Ask receiver) = replyOf t receiver
+
+-- the table is the one after the order
+unfoldable pub sentFor : Table → Module → Order → Sent
+sentFor t from o = to (receiversFor t from o) (packed (bytesFor t o))
+
+-- what a receiver gets
+abbrev pub partOf : Sent → Module → Bytes
+partOf s Screen = s .screen
+partOf s Keyboard = s .keyboard
+partOf s Modem = s .modem
+partOf s Socket = s .socket
+
+abbrev pub gets : Sent → Module → List ℕ
+gets s receiver = bytesOf (partOf s receiver)
