@@ -1,14 +1,19 @@
--- A status tells which senders reach its receiver, bit by bit, and stands in column 4. Assumes nothing.
+-- A status tells which senders reach its receiver, bit by bit, and stands in column 4; a reply is five values. Assumes
+-- nothing.
 use mathlib.Core.Path.{_≡_, refl}
 use mathlib.Core.Bool.{Bool, true, false, cond}
 use mathlib.Core.List.{[], _∷_, map}
 use Prim.Native.Nat.{ℕ, _/_, _%_, _≤_}
 use native.Mathlib.Omega.{arith}
+use lib.ListN.{length}
+use Rattle.values.specs.Large.{Values}
+use Rattle.values.proofs.Found.{values-none, values-cons}
 use Rattle.wiring.specs.declared.Module.{Module}
 use Rattle.wiring.specs.declared.Module.the-variants.{Screen, Keyboard, Modem, Socket}
 use Rattle.wiring.specs.declared.Table.{Table}
+use Rattle.wiring.specs.Modules.{placeOf, receiverCode}
 use Rattle.wiring.specs.Tables.{row, localTable, connectedTable}
-use Rattle.replies.specs.Replies.{shown, columnOf, weighed, summed, statusOf, weightOf}
+use Rattle.replies.specs.Replies.{shown, columnOf, weighed, summed, statusOf, replyOf, weightOf}
 
 -- ---- how large it is
 
@@ -16,7 +21,7 @@ pub weighed-top : (on : Bool) (w : ℕ) → weighed on w ≤ w
 weighed-top true w = omega arith
 weighed-top false w = omega arith
 
-pub status-top : (t : Table) (receiver : Module) → statusOf t receiver ≤ 79
+status-top : (t : Table) (receiver : Module) → statusOf t receiver ≤ 79
 unfolding statusOf
 status-top t receiver =
     let w = columnOf t receiver in
@@ -27,6 +32,28 @@ status-top t receiver =
       weighed-top (w .keyboard) 2,
       weighed-top (w .screen) 1,
     )
+
+place-top : (m : Module) → placeOf m ≤ 3
+place-top Screen = omega arith
+place-top Keyboard = omega arith
+place-top Modem = omega arith
+place-top Socket = omega arith
+
+-- a reply is five values of 0 to 127
+pub reply-length : (t : Table) (receiver : Module) → length (replyOf t receiver) ≡ 5
+unfolding replyOf
+reply-length t r = refl
+
+pub reply-small : (t : Table) (receiver : Module) → Values (replyOf t receiver)
+unfolding replyOf
+reply-small t r =
+    let code = receiverCode r in
+    let status = statusOf t r in
+    values-cons 27 (59 ∷ 99 ∷ code ∷ status ∷ []) (omega arith)
+    (values-cons 59 (99 ∷ code ∷ status ∷ []) (omega arith)
+    (values-cons 99 (code ∷ status ∷ []) (omega arith)
+    (values-cons code (status ∷ []) (omega (arith, place-top r))
+    (values-cons status [] (omega (arith, status-top t r)) values-none))))
 
 -- ---- its bits
 

@@ -1,8 +1,10 @@
 -- What one value sends, and to whom (01, "Links and commands"). Assumes nothing.
+use mathlib.Core.Path.{_≡_}
 use mathlib.Core.Bool.{Bool, true, false, cond}
 use mathlib.Core.List.{List, [], _∷_, _++_}
-use Prim.Native.Nat.{ℕ, _-_}
+use Prim.Native.Nat.{ℕ, _-_, _≤_, _<_}
 use lib.ListN.{length, take, replicate}
+use Rattle.values.specs.Large.{Values}
 use Rattle.wiring.specs.declared.Module.{Module}
 use Rattle.wiring.specs.declared.Module.the-variants.{Screen, Keyboard, Modem, Socket}
 use Rattle.wiring.specs.declared.Row.{Row}
@@ -74,3 +76,17 @@ partOf s Socket = s .socket
 
 abbrev pub gets : Sent → Module → List ℕ
 gets s receiver = bytesOf (partOf s receiver)
+
+-- ---- how much that is
+
+-- "One input byte sends at most five bytes to any receiver"; "What the links send carries no parity"
+abbrev pub FewIn : Bytes → Type 0
+FewIn b = (b .count ≤ 5) × (length (bytesOf b) ≡ b .count) × Values (bytesOf b)
+
+-- what is passed on is a value of 0 to 127
+abbrev pub SmallOrder : Order → Type 0
+SmallOrder Nothing = Unit {0}
+SmallOrder (Pass v) = v < 128
+SmallOrder (Pair v) = v < 128
+SmallOrder (Link receiver sender on) = Unit {0}
+SmallOrder (Ask receiver) = Unit {0}
