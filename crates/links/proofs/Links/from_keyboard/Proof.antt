@@ -1,0 +1,48 @@
+use borrow.Author.Tests.{le-leb, le-ltb, lt-leb, lt-ltb}
+use Rattle.links.specs.Calls.{fromKeyboard}
+use borrow.Author.Needs.{needs}
+use Rattle.links.proofs.Links.from_keyboard.Statement.{statement}
+use Rattle.links.proofs.Links.from_keyboard.Tie as tie
+
+-- src/lib.rt:140:12
+in-range-requires : tie.Need-in-range-requires
+in-range-requires c κs = search needs
+
+-- src/lib.rt:142:17
+silent-requires : tie.Need-silent-requires
+silent-requires c κs = search needs
+
+-- src/lib.rt:142:17
+returns : tie.Need-returns
+unfolding fromKeyboard
+returns c = simp (c .silent .ensures, lt-ltb _ _ (c .before .if2 .taken), lt-leb _ _ (c .before .if2 .taken), c .before .before .if1 .taken, ← c .before .before .before .in-range .ensures)
+
+-- src/lib.rt:144:17
+send-requires : tie.Need-send-requires
+send-requires c κs = search needs
+
+-- src/lib.rt:145:13
+returns-2 : tie.Need-returns-2
+unfolding fromKeyboard
+returns-2 c = simp (c .send .ensures, le-ltb _ _ (c .before .if2 .left), le-leb _ _ (c .before .if2 .left), c .before .before .if1 .taken, ← c .before .before .before .in-range .ensures)
+
+-- src/lib.rt:151:9
+silent-requires-2 : tie.Need-silent-requires-2
+silent-requires-2 c κs = search needs
+
+-- src/lib.rt:137:5
+returns-3 : tie.Need-returns-3
+unfolding fromKeyboard
+returns-3 c = simp (c .silent2 .ensures, c .before .if1 .left, ← c .before .before .in-range .ensures)
+
+pub from-keyboard-spec : {M : Type 1} → statement M
+from-keyboard-spec =
+    tie.close
+    (tie.spec
+    in-range-requires
+    silent-requires
+    returns
+    send-requires
+    returns-2
+    silent-requires-2
+    returns-3)
