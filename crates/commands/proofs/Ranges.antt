@@ -1,4 +1,5 @@
--- An unfinished sequence is in range exactly when each of its codes is at most 127, and stays so. Assumes nothing.
+-- An unfinished sequence is in range exactly when each of its codes is at most 127, and stays so; what is passed on is a
+-- value of 0 to 127. Assumes nothing.
 use mathlib.Core.Path.{_≡_, refl}
 use mathlib.Core.Bool.{Bool, true, false, cond, _&&_}
 use mathlib.Core.List.{List, [], _∷_}
@@ -9,11 +10,15 @@ use borrow.Author.Tests.{leb-true, le-leb}
 use Rattle.laws.proofs.Computed.{chosen, and-left, and-right, holds, is-true, both}
 use Rattle.values.specs.Large.{Values}
 use Rattle.values.proofs.Found.{values-none, values-cons, values-head, values-tail}
+use Rattle.wiring.specs.Modules.{receiverCode, senderCode}
 use Rattle.commands.specs.declared.Unfinished.{Unfinished}
 use Rattle.commands.specs.declared.Unfinished.the-variants.{Free, Escape, Pro1, Pro2, Pro2With}
 use Rattle.commands.specs.declared.Unfinished.the-variants.{Pro3, Pro3With, Pro3Both}
+use Rattle.commands.specs.declared.naming.Named.{Named}
+use Rattle.commands.specs.declared.naming.Named.the-variants.{Is, Nobody}
 use Rattle.commands.specs.declared.Heard.{Heard}
-use Rattle.commands.specs.Hearing.{codesOf, inRange, heard}
+use Rattle.commands.specs.Commands.{named, asking, linking}
+use Rattle.commands.specs.Hearing.{codesOf, inRange, heard, SmallOrder}
 
 -- ESC and the codes behind it
 after-esc : (vs : List ℕ) → Values vs → Values (27 ∷ vs)
@@ -76,3 +81,33 @@ kept (Pro2With x) v e h = refl
 kept Pro3 v e h = le-leb v 127 h
 kept (Pro3With x) v e h = is-true (leb x 127 && leb v 127) (both (leb x 127) (leb v 127) (holds e) (holds (le-leb v 127 h)))
 kept (Pro3Both x y) v e h = refl
+
+-- ---- what is passed on
+
+PassesSmall : Heard → Type 0
+PassesSmall h = SmallOrder (h .order)
+
+small-ask : (n : Named) → SmallOrder (asking n)
+small-ask (Is receiver) = tt
+small-ask Nobody = tt
+
+small-link : (a b : Named) (on : Bool) → SmallOrder (linking a b on)
+small-link Nobody b on = tt
+small-link (Is receiver) Nobody on = tt
+small-link (Is receiver) (Is sender) on = tt
+
+pub small-order : (u : Unfinished) (v : ℕ) → v < 128 → SmallOrder (heard u v .order)
+unfolding heard PassesSmall
+small-order Free v h = chosen PassesSmall (eqb v 27) (λ e. tt) (λ e. h)
+small-order Escape v h =
+    chosen PassesSmall (eqb v 57) (λ e. tt)
+    (λ e. chosen PassesSmall (eqb v 58) (λ f. tt) (λ f. chosen PassesSmall (eqb v 59) (λ g. tt) (λ g. h)))
+small-order Pro1 v h = tt
+small-order Pro2 v h = tt
+small-order (Pro2With x) v h =
+    chosen SmallOrder (eqb x 98) (λ e. small-ask (named receiverCode v)) (λ e. tt)
+small-order Pro3 v h = tt
+small-order (Pro3With x) v h = tt
+small-order (Pro3Both x y) v h =
+    chosen SmallOrder (eqb x 97) (λ e. small-link (named receiverCode y) (named senderCode v) true)
+    (λ e. chosen SmallOrder (eqb x 96) (λ f. small-link (named receiverCode y) (named senderCode v) false) (λ f. tt))

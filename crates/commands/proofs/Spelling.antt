@@ -1,14 +1,21 @@
 -- Each value of a command, heard after those before it. Assumes nothing.
 use mathlib.Core.Path.{_≡_, refl}
 use mathlib.Core.Bool.{cond}
+use mathlib.Core.List.{List, [], _∷_, _++_}
 use Prim.Native.Nat.{ℕ, zero, suc, _+_, _<_}
 use native.Mathlib.Omega.{arith}
 use lib.Dec.{eqb}
 use lib.ListN.{length, getD, take}
+use Rattle.commands.specs.declared.Unfinished.{Unfinished}
 use Rattle.commands.specs.declared.Unfinished.the-variants.{Free}
 use Rattle.commands.specs.declared.Order.the-variants.{Nothing}
 use Rattle.commands.specs.Commands.{Command, pro1, pro2, pro3, spelled, ordered}
 use Rattle.commands.specs.Hearing.{codesOf, heard, leftAfter}
+
+-- some values, then others
+pub left-append : (u : Unfinished) (vs ws : List ℕ) → leftAfter u (vs ++ ws) ≡ leftAfter (leftAfter u vs) ws
+left-append u [] ws = refl
+left-append u (v ∷ vs) ws = left-append (heard u v .unfinished) vs ws
 
 -- the codes so far are unfinished
 pub midway : (c : Command) (k : ℕ) → k < length (spelled c)

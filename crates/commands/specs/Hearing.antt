@@ -1,13 +1,13 @@
 -- What one value means after the codes that its module sent before it (01, "Links and commands"). Assumes nothing.
 use mathlib.Core.Bool.{Bool, true, cond, _&&_}
 use mathlib.Core.List.{List, [], _∷_}
-use Prim.Native.Nat.{ℕ}
+use Prim.Native.Nat.{ℕ, _<_}
 use lib.Dec.{leb, eqb}
 use Rattle.commands.specs.declared.Unfinished.{Unfinished}
 use Rattle.commands.specs.declared.Unfinished.the-variants.{Free, Escape, Pro1, Pro2, Pro2With}
 use Rattle.commands.specs.declared.Unfinished.the-variants.{Pro3, Pro3With, Pro3Both}
 use Rattle.commands.specs.declared.Order.{Order}
-use Rattle.commands.specs.declared.Order.the-variants.{Nothing, Pass, Pair}
+use Rattle.commands.specs.declared.Order.the-variants.{Nothing, Pass, Pair, Link, Ask}
 use Rattle.commands.specs.declared.Heard.{Heard}
 use Rattle.commands.specs.Commands.{pro1, pro2, pro3, ordered}
 
@@ -65,3 +65,11 @@ heard (Pro3Both x y) z = does (ordered (pro3 x y z))
 abbrev pub leftAfter : Unfinished → List ℕ → Unfinished
 leftAfter u [] = u
 leftAfter u (v ∷ vs) = leftAfter (heard u v .unfinished) vs
+
+-- what is passed on is a value of 0 to 127
+abbrev pub SmallOrder : Order → Type 0
+SmallOrder Nothing = Unit {0}
+SmallOrder (Pass v) = v < 128
+SmallOrder (Pair v) = v < 128
+SmallOrder (Link receiver sender on) = Unit {0}
+SmallOrder (Ask receiver) = Unit {0}

@@ -19,9 +19,10 @@ use Rattle.replies.specs.Replies.{replyOf}
 use Rattle.replies.proofs.Statuses.{reply-length, reply-small}
 use Rattle.commands.specs.declared.Order.{Order}
 use Rattle.commands.specs.declared.Order.the-variants.{Nothing, Pass, Pair, Link, Ask}
+use Rattle.commands.specs.Hearing.{SmallOrder}
 use Rattle.sending.specs.declared.Bytes.{Bytes}
 use Rattle.sending.specs.Sending.{packed, bytesOf, to, nowhere, silence, onlyTo, receiversFor, bytesFor, sentFor}
-use Rattle.sending.specs.Sending.{partOf, gets, FewIn, SmallOrder}
+use Rattle.sending.specs.Sending.{partOf, gets, FewIn}
 
 -- ---- who gets it
 

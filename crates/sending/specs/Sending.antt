@@ -2,7 +2,7 @@
 use mathlib.Core.Path.{_≡_}
 use mathlib.Core.Bool.{Bool, true, false, cond}
 use mathlib.Core.List.{List, [], _∷_, _++_}
-use Prim.Native.Nat.{ℕ, _-_, _≤_, _<_}
+use Prim.Native.Nat.{ℕ, _-_, _≤_}
 use lib.ListN.{length, take, replicate}
 use Rattle.values.specs.Large.{Values}
 use Rattle.wiring.specs.declared.Module.{Module}
@@ -82,11 +82,3 @@ gets s receiver = bytesOf (partOf s receiver)
 -- "One input byte sends at most five bytes to any receiver"; "What the links send carries no parity"
 abbrev pub FewIn : Bytes → Type 0
 FewIn b = (b .count ≤ 5) × (length (bytesOf b) ≡ b .count) × Values (bytesOf b)
-
--- what is passed on is a value of 0 to 127
-abbrev pub SmallOrder : Order → Type 0
-SmallOrder Nothing = Unit {0}
-SmallOrder (Pass v) = v < 128
-SmallOrder (Pair v) = v < 128
-SmallOrder (Link receiver sender on) = Unit {0}
-SmallOrder (Ask receiver) = Unit {0}

@@ -1,0 +1,133 @@
+-- Every call keeps the range, and the test that the calls make tells it. Assumes nothing.
+use mathlib.Core.Path.{_≡_, refl, sym, ap, _∙_, subst, subst⁻¹}
+use mathlib.Core.Bool.{Bool, true, false, cond, _&&_, not}
+use mathlib.Core.List.{List, [], _∷_}
+use Prim.Native.Nat.{ℕ, _≤_, _<_}
+use native.Mathlib.Omega.{arith}
+use lib.Dec.{ltb, T}
+use borrow.Author.Tests.{ltb-false}
+use Rattle.laws.proofs.Computed.{chosen, and-left, and-right, holds, is-true, both}
+use Rattle.values.specs.Large.{Values}
+use Rattle.values.proofs.Found.{values-none}
+use Rattle.wiring.specs.declared.Module.{Module}
+use Rattle.wiring.specs.declared.Table.{Table}
+use Rattle.wiring.specs.Tables.{localTable, connectedTable, selfLinked, reaches, NoneItself}
+use Rattle.wiring.proofs.Selves.{self-kept, tested as selves-tested, passed as selves-passed}
+use Rattle.wiring.proofs.Selves.{local-none, connected-none}
+use Rattle.commands.specs.declared.Unfinished.{Unfinished}
+use Rattle.commands.specs.declared.Unfinished.the-variants.{Free}
+use Rattle.commands.specs.declared.Order.{Order}
+use Rattle.commands.specs.declared.Order.the-variants.{Nothing, Pass, Pair, Link, Ask}
+use Rattle.commands.specs.declared.Heard.{Heard}
+use Rattle.commands.specs.Hearing.{codesOf, inRange as sequenceInRange, heard}
+use Rattle.commands.proofs.Ranges.{tested as codes-tested, passed as codes-passed, kept as codes-kept}
+use Rattle.links.specs.declared.Links.{Links}
+use Rattle.links.specs.declared.Outcome.{Outcome}
+use Rattle.links.specs.States.{starting, localLinks, connectedLinks, inRange}
+use Rattle.links.specs.Calls.{withTable, choosing, tableAfter, modemHeard, socketHeard, fromModem, fromSocket}
+use Rattle.links.specs.Runs.{Ear, modem, socket, unfinished, Call, key, value, toLocal, toConnected, fromEar, obey, run}
+use Rattle.links.specs.Runs.{InRange}
+use Rattle.links.proofs.Steps.{keys-change-nothing}
+
+-- ---- the test
+
+not-true : (t : Bool) → T (not t) → t ≡ false
+not-true true p = absurd p
+not-true false p = refl
+
+pub tested : (l : Links) → inRange l ≡ true → InRange l
+unfolding inRange
+tested l e =
+    let self = not (selfLinked (l .table)) in
+    let line = sequenceInRange (l .modem) in
+    let port = sequenceInRange (l .socket) in
+    let rest = and-right self (line && port) (holds e) in
+    record {
+      none-itself = selves-tested (l .table) (not-true (selfLinked (l .table)) (and-left self (line && port) (holds e)));
+      small = small (is-true line (and-left line port rest)) (is-true port (and-right line port rest));
+    }
+  where
+    small : sequenceInRange (l .modem) ≡ true → sequenceInRange (l .socket) ≡ true → (e : Ear)
+        → Values (codesOf (unfinished l e))
+    small a b modem = codes-tested (l .modem) a
+    small a b socket = codes-tested (l .socket) b
+
+pub passed : (l : Links) → InRange l → inRange l ≡ true
+unfolding inRange
+passed l r =
+    simp (selves-passed (l .table) (r .none-itself), codes-passed (l .modem) (r .small modem), codes-passed (l .socket) (r .small socket))
+
+-- ---- every call keeps it
+
+with-table : (l : Links) (t : Table) → NoneItself t → InRange l → InRange (withTable l t)
+with-table l t n r = record { none-itself = n; small = small }
+  where
+    small : (e : Ear) → Values (codesOf (unfinished (withTable l t) e))
+    small modem = r .small modem
+    small socket = r .small socket
+
+chosen-kept : (l : Links) (t : Table) → NoneItself t → InRange l → InRange (choosing l t .next)
+unfolding choosing
+chosen-kept l t n r = chosen (λ (o : Outcome). InRange (o .next)) (inRange l) (λ i. with-table l t n r) (λ i. r)
+
+table-kept : (t : Table) (o : Order) → NoneItself t → NoneItself (tableAfter t o)
+table-kept t Nothing n = n
+table-kept t (Pass v) n = n
+table-kept t (Pair v) n = n
+table-kept t (Link receiver sender on) n = λ m. self-kept t receiver sender m on ∙ n m
+table-kept t (Ask receiver) n = n
+
+codes-still : (u : Unfinished) (v : ℕ) → Values (codesOf u) → v ≤ 127 → Values (codesOf (heard u v .unfinished))
+codes-still u v s h = codes-tested (heard u v .unfinished) (codes-kept u v (codes-passed u s) h)
+
+modem-kept : (l : Links) (v : ℕ) → InRange l → v ≤ 127 → InRange (modemHeard l (heard (l .modem) v) .next)
+unfolding modemHeard
+modem-kept l v r h =
+    record { none-itself = table-kept (l .table) (heard (l .modem) v .order) (r .none-itself); small = small }
+  where
+    small : (e : Ear) → Values (codesOf (unfinished (modemHeard l (heard (l .modem) v) .next) e))
+    small modem = codes-still (l .modem) v (r .small modem) h
+    small socket = r .small socket
+
+socket-kept : (l : Links) (v : ℕ) → InRange l → v ≤ 127 → InRange (socketHeard l (heard (l .socket) v) .next)
+unfolding socketHeard
+socket-kept l v r h =
+    record { none-itself = table-kept (l .table) (heard (l .socket) v .order) (r .none-itself); small = small }
+  where
+    small : (e : Ear) → Values (codesOf (unfinished (socketHeard l (heard (l .socket) v) .next) e))
+    small modem = r .small modem
+    small socket = codes-still (l .socket) v (r .small socket) h
+
+Keeps : Outcome → Type 0
+Keeps o = InRange (o .next)
+
+pub kept : (c : Call) (l : Links) → InRange l → InRange (obey c l .next)
+unfolding fromModem fromSocket Keeps
+kept (key v) l r = subst⁻¹ InRange (keys-change-nothing l v) r
+kept (value modem v) l r =
+    chosen Keeps (inRange l)
+    (λ i. chosen Keeps (ltb 127 v) (λ h. r) (λ h. modem-kept l v r (ltb-false 127 v h))) (λ i. r)
+kept (value socket v) l r =
+    chosen Keeps (inRange l)
+    (λ i. chosen Keeps (ltb 127 v) (λ h. r) (λ h. socket-kept l v r (ltb-false 127 v h))) (λ i. r)
+kept toLocal l r = chosen-kept l localTable local-none r
+kept toConnected l r = chosen-kept l connectedTable connected-none r
+
+pub run-kept : (l : Links) (cs : List Call) → InRange l → InRange (run l cs)
+run-kept l [] r = r
+run-kept l (c ∷ cs) r = run-kept (obey c l .next) cs (kept c l r)
+
+-- ---- where it begins
+
+begins : (t : Table) → NoneItself t → InRange (starting t)
+begins t n = record { none-itself = n; small = small }
+  where
+    small : (e : Ear) → Values (codesOf (unfinished (starting t) e))
+    small modem = values-none
+    small socket = values-none
+
+pub local-in : InRange localLinks
+local-in = begins localTable local-none
+
+pub connected-in : InRange connectedLinks
+connected-in = begins connectedTable connected-none

@@ -1,0 +1,137 @@
+-- A run: calls one after another, and what each sender says and each receiver gets in it. Assumes nothing.
+use mathlib.Core.Path.{_≡_}
+use mathlib.Core.Bool.{Bool, true, false, cond, not}
+use mathlib.Core.List.{List, [], _∷_, _++_}
+use Prim.Native.Nat.{ℕ}
+use lib.Dec.{ltb, eqb}
+use Rattle.numbers.specs.Numbers.{Conditions, numberOf, Told}
+use Rattle.values.specs.Large.{Values}
+use Rattle.wiring.specs.declared.Module.{Module}
+use Rattle.wiring.specs.declared.Module.the-variants.{Modem, Socket}
+use Rattle.wiring.specs.Tables.{localTable, connectedTable, reaches, NoneItself}
+use Rattle.commands.specs.declared.Unfinished.{Unfinished}
+use Rattle.commands.specs.declared.Unfinished.the-variants.{Free}
+use Rattle.commands.specs.Hearing.{codesOf}
+use Rattle.sending.specs.Sending.{gets}
+use Rattle.links.specs.declared.Links.{Links}
+use Rattle.links.specs.declared.Answer.the-variants.{Taken}
+use Rattle.links.specs.declared.Outcome.{Outcome}
+use Rattle.links.specs.States.{inRange}
+use Rattle.links.specs.Calls.{choosing, fromKeyboard, fromModem, fromSocket}
+
+-- "Commands are heard from modem and socket only"
+pub data Ear : Type 0 where
+  modem : Ear
+  socket : Ear
+
+abbrev pub nameOf : Ear → Module
+nameOf modem = Modem
+nameOf socket = Socket
+
+abbrev pub other : Ear → Ear
+other modem = socket
+other socket = modem
+
+abbrev pub sameEar : Ear → Ear → Bool
+sameEar modem modem = true
+sameEar modem socket = false
+sameEar socket modem = false
+sameEar socket socket = true
+
+-- "each of the two has its own unfinished sequence"
+abbrev pub unfinished : Links → Ear → Unfinished
+unfinished l modem = l .modem
+unfinished l socket = l .socket
+
+-- ---- calls
+
+-- a key; a value from modem or socket; the host's choice of a table
+pub data Call : Type 0 where
+  key : ℕ → Call
+  value : Ear → ℕ → Call
+  toLocal : Call
+  toConnected : Call
+
+abbrev pub fromEar : Ear → Links → ℕ → Outcome
+fromEar modem l v = fromModem l v
+fromEar socket l v = fromSocket l v
+
+abbrev pub obey : Call → Links → Outcome
+obey (key v) l = fromKeyboard l v
+obey (value e v) l = fromEar e l v
+obey toLocal l = choosing l localTable
+obey toConnected l = choosing l connectedTable
+
+-- what a receiver gets from a call
+abbrev pub given : Links → Call → Module → List ℕ
+given l c receiver = gets (obey c l .sent) receiver
+
+-- the state after a run
+abbrev pub run : Links → List Call → Links
+run l [] = l
+run l (c ∷ cs) = run (obey c l .next) cs
+
+-- what an ear says in a run: its values of 0 to 127, for any other is refused
+abbrev pub saidAt : Ear → Call → List ℕ
+saidAt e (key v) = []
+saidAt e (value f v) = cond (sameEar e f) (cond (ltb 127 v) [] (v ∷ [])) []
+saidAt e toLocal = []
+saidAt e toConnected = []
+
+abbrev pub said : Ear → List Call → List ℕ
+said e [] = []
+said e (c ∷ cs) = saidAt e c ++ said e cs
+
+-- ---- ranges and numbers
+
+-- "A module is never linked to itself"; "each at most 127"
+pub record InRange (l : Links) : Type 0 where
+  pub none-itself : NoneItself (l .table)
+  pub small : (e : Ear) → Values (codesOf (unfinished l e))
+
+-- whether a call hands in a value above 127
+abbrev pub tooLarge : Call → Bool
+tooLarge (key v) = ltb 127 v
+tooLarge (value e v) = ltb 127 v
+tooLarge toLocal = false
+tooLarge toConnected = false
+
+-- "a state handed in lies outside the ranges .. or links a module to itself"; "a value handed to .. links is above 127"
+abbrev pub callConditions : Call → Links → Conditions
+callConditions c l =
+    record {
+      wrongLength = false;
+      brokenState = not (inRange l);
+      tooLarge = tooLarge c;
+      noRoom = false;
+      repeat = false;
+    }
+
+-- what is told of them: number 2 names the value's place
+abbrev pub callTold : Call → Links → Told
+callTold c l =
+    record {
+      number = numberOf (callConditions c l);
+      named = cond (eqb (numberOf (callConditions c l)) 2) (0 ∷ []) [];
+    }
+
+-- ---- claims
+
+-- from a state in range with nothing unfinished from an ear, a run in which it says these values, whatever else is
+-- called in between
+pub record Says (e : Ear) (l : Links) (cs : List Call) (vs : List ℕ) : Type 0 where
+  pub range : InRange l
+  pub free : unfinished l e ≡ Free
+  pub values : said e cs ≡ vs
+
+-- a call is taken: just the receivers that a sender reaches by the table of the moment get these bytes, and this is the
+-- state after it
+pub record PassedOn (l : Links) (c : Call) (sender : Module) (vs : List ℕ) (next : Links) : Type 0 where
+  pub taken : obey c l .answer ≡ Taken
+  pub state : obey c l .next ≡ next
+  pub reached : (receiver : Module) → given l c receiver ≡ cond (reaches (l .table) sender receiver) vs []
+
+-- nothing unfinished from an ear
+abbrev pub freed : Links → Ear → Links
+freed l modem = record { table = l .table; modem = Free; socket = l .socket }
+freed l socket = record { table = l .table; modem = l .modem; socket = Free }
