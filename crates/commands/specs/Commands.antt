@@ -25,6 +25,17 @@ spelled (pro1 x) = 27 ∷ 57 ∷ x ∷ []
 spelled (pro2 x y) = 27 ∷ 58 ∷ x ∷ y ∷ []
 spelled (pro3 x y z) = 27 ∷ 59 ∷ x ∷ y ∷ z ∷ []
 
+-- all its values but the last, and the last
+abbrev pub beginning : Command → List ℕ
+beginning (pro1 x) = 27 ∷ 57 ∷ []
+beginning (pro2 x y) = 27 ∷ 58 ∷ x ∷ []
+beginning (pro3 x y z) = 27 ∷ 59 ∷ x ∷ y ∷ []
+
+abbrev pub lastOf : Command → ℕ
+lastOf (pro1 x) = x
+lastOf (pro2 x y) = y
+lastOf (pro3 x y z) = z
+
 -- the module that a code names
 abbrev pub named : (Module → ℕ) → ℕ → Named
 named codeOf c =

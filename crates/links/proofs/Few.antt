@@ -1,10 +1,5 @@
 -- One value sends at most five bytes to any receiver, and none above 127. Assumes nothing.
-use mathlib.Core.Path.{_≡_}
-use mathlib.Core.Bool.{Bool, true, false}
-use Prim.Native.Nat.{ℕ, _<_}
-use native.Mathlib.Omega.{arith}
 use lib.Dec.{ltb}
-use borrow.Author.Tests.{ltb-false}
 use Rattle.laws.proofs.Computed.{chosen}
 use Rattle.wiring.specs.declared.Module.{Module}
 use Rattle.wiring.specs.declared.Module.the-variants.{Keyboard, Modem, Socket}
@@ -20,12 +15,10 @@ use Rattle.links.specs.declared.Outcome.{Outcome}
 use Rattle.links.specs.States.{inRange}
 use Rattle.links.specs.Calls.{choosing, tableAfter, modemHeard, socketHeard, fromKeyboard, fromModem, fromSocket}
 use Rattle.links.specs.Runs.{modem, socket, Call, key, value, toLocal, toConnected, obey}
+use Rattle.links.proofs.Refusals.{small}
 
 FewOut : Outcome → Type 0
 FewOut o = (receiver : Module) → FewIn (partOf (o .sent) receiver)
-
-small : (v : ℕ) → ltb 127 v ≡ false → v < 128
-small v h = omega (arith, ltb-false 127 v h)
 
 few-chosen : (l : Links) (t : Table) → FewOut (choosing l t)
 unfolding FewOut choosing

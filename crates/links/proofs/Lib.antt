@@ -2,3 +2,4 @@ pub mod Steps
 pub mod Ranges
 pub mod Refusals
 pub mod Few
+pub mod Own

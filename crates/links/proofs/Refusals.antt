@@ -35,7 +35,7 @@ large (value socket v) l i h = simp (i, h)
 large toLocal l i h = absurd (fails (sym h) tt)
 large toConnected l i h = absurd (fails (sym h) tt)
 
-small : (v : ℕ) → ltb 127 v ≡ false → v < 128
+pub small : (v : ℕ) → ltb 127 v ≡ false → v < 128
 small v h = omega (arith, ltb-false 127 v h)
 
 pub taken-else : (c : Call) (l : Links) → inRange l ≡ true → tooLarge c ≡ false → obey c l .answer ≡ Taken

@@ -11,8 +11,9 @@ use Rattle.values.proofs.Found.{values-none, values-cons}
 use Rattle.wiring.specs.declared.Module.{Module}
 use Rattle.wiring.specs.declared.Module.the-variants.{Screen, Keyboard, Modem, Socket}
 use Rattle.wiring.specs.declared.Table.{Table}
-use Rattle.wiring.specs.Modules.{placeOf, receiverCode}
+use Rattle.wiring.specs.Modules.{receiverCode}
 use Rattle.wiring.specs.Tables.{row, localTable, connectedTable}
+use Rattle.wiring.proofs.Small.{receiver-small}
 use Rattle.replies.specs.Replies.{shown, columnOf, weighed, summed, statusOf, replyOf, weightOf}
 
 -- ---- how large it is
@@ -33,12 +34,6 @@ status-top t receiver =
       weighed-top (w .screen) 1,
     )
 
-place-top : (m : Module) → placeOf m ≤ 3
-place-top Screen = omega arith
-place-top Keyboard = omega arith
-place-top Modem = omega arith
-place-top Socket = omega arith
-
 -- a reply is five values of 0 to 127
 pub reply-length : (t : Table) (receiver : Module) → length (replyOf t receiver) ≡ 5
 unfolding replyOf
@@ -52,7 +47,7 @@ reply-small t r =
     values-cons 27 (59 ∷ 99 ∷ code ∷ status ∷ []) (omega arith)
     (values-cons 59 (99 ∷ code ∷ status ∷ []) (omega arith)
     (values-cons 99 (code ∷ status ∷ []) (omega arith)
-    (values-cons code (status ∷ []) (omega (arith, place-top r))
+    (values-cons code (status ∷ []) (receiver-small r)
     (values-cons status [] (omega (arith, status-top t r)) values-none))))
 
 -- ---- its bits
