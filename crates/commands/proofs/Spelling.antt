@@ -79,7 +79,12 @@ pub plain : (v : ℕ) → (v ≡ 27 → ⊥) → heard Free v ≡ does (Pass v)
 unfolding heard
 plain v n = simp (ne-eqb v 27 n)
 
--- after ESC, any code but the three
+-- ESC is held
+pub esc-held : leftAfter Free (27 ∷ []) ≡ Escape
+unfolding heard
+esc-held = refl
+
+-- after it, any code but the three is passed on with it
 pub paired : (v : ℕ) → (v ≡ 57 → ⊥) → (v ≡ 58 → ⊥) → (v ≡ 59 → ⊥) → heard Escape v ≡ does (Pair v)
 unfolding heard
 paired v a b c = simp (ne-eqb v 57 a, ne-eqb v 58 b, ne-eqb v 59 c)

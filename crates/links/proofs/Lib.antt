@@ -3,3 +3,5 @@ pub mod Ranges
 pub mod Refusals
 pub mod Few
 pub mod Own
+pub mod Flow
+pub mod Replying

@@ -8,7 +8,9 @@ use Rattle.numbers.specs.Numbers.{Conditions, numberOf, Told}
 use Rattle.values.specs.Large.{Values}
 use Rattle.wiring.specs.declared.Module.{Module}
 use Rattle.wiring.specs.declared.Module.the-variants.{Modem, Socket}
+use Rattle.wiring.specs.Modules.{same}
 use Rattle.wiring.specs.Tables.{localTable, connectedTable, reaches, NoneItself}
+use Rattle.replies.specs.Replies.{replyOf}
 use Rattle.commands.specs.declared.Unfinished.{Unfinished}
 use Rattle.commands.specs.declared.Unfinished.the-variants.{Free}
 use Rattle.commands.specs.Hearing.{codesOf}
@@ -135,3 +137,20 @@ pub record PassedOn (l : Links) (c : Call) (sender : Module) (vs : List ℕ) (ne
 abbrev pub freed : Links → Ear → Links
 freed l modem = record { table = l .table; modem = Free; socket = l .socket }
 freed l socket = record { table = l .table; modem = l .modem; socket = Free }
+
+-- a value of an ear is taken out of the flow: nobody gets anything, and the table and what is unfinished from the other
+-- ear are as they were
+pub record Swallowed (l : Links) (e : Ear) (v : ℕ) : Type 0 where
+  pub silent : (receiver : Module) → given l (value e v) receiver ≡ []
+  pub table : obey (value e v) l .next .table ≡ l .table
+  pub other-kept : unfinished (obey (value e v) l .next) (other e) ≡ unfinished l (other e)
+
+-- a value of an ear ends a command about a receiver: the ear's own module gets the reply that tells the table after it,
+-- whatever the links, and no other module gets anything; what is unfinished from the other ear is as it was
+pub record Answered (l : Links) (e : Ear) (v : ℕ) (receiver : Module) : Type 0 where
+  pub taken : obey (value e v) l .answer ≡ Taken
+  pub replied :
+      (m : Module)
+      → given l (value e v) m ≡ cond (same m (nameOf e)) (replyOf (obey (value e v) l .next .table) receiver) []
+  pub ended : unfinished (obey (value e v) l .next) e ≡ Free
+  pub other-kept : unfinished (obey (value e v) l .next) (other e) ≡ unfinished l (other e)
