@@ -37,7 +37,7 @@ goes l e v o vs q k g =
       state = ap (λ (x : Outcome). x .next) q ∙ after e;
       reached =
           λ r. ap (λ (x : Outcome). gets (x .sent) r) q ∙ ap (λ (s : Sent). gets s r) (sent-heard e l (does o))
-              ∙ ap (λ t. gets (sentFor t (nameOf e) o) r) k ∙ g r;
+          ∙ ap (λ t. gets (sentFor t (nameOf e) o) r) k ∙ g r;
     }
   where
     after : (f : Ear) → earHeard f l (does o) .next ≡ freed l f

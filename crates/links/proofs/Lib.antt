@@ -5,3 +5,4 @@ pub mod Few
 pub mod Own
 pub mod Flow
 pub mod Replying
+pub mod Choosing

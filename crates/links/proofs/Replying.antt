@@ -114,9 +114,9 @@ answered e l v o receiver q g =
       taken = ap (λ (x : Outcome). x .answer) q ∙ answer-heard e l (does o);
       replied =
           λ m. subst⁻¹
-              (λ (x : Outcome). gets (x .sent) m ≡ cond (same m (nameOf e)) (replyOf (x .next .table) receiver) []) q
-              (ap (λ (s : Sent). gets s m) (sent-heard e l (does o)) ∙ g (tableAfter (l .table) o) m
-              ∙ ap (λ (t : Table). cond (same m (nameOf e)) (replyOf t receiver) []) (sym (table-heard e l (does o))));
+          (λ (x : Outcome). gets (x .sent) m ≡ cond (same m (nameOf e)) (replyOf (x .next .table) receiver) []) q
+          (ap (λ (s : Sent). gets s m) (sent-heard e l (does o)) ∙ g (tableAfter (l .table) o) m
+          ∙ ap (λ (t : Table). cond (same m (nameOf e)) (replyOf t receiver) []) (sym (table-heard e l (does o))));
       ended = ap (λ (x : Outcome). unfinished (x .next) e) q ∙ own-heard e l (does o);
       other-kept = ap (λ (x : Outcome). unfinished (x .next) (other e)) q ∙ other-heard e l (does o);
     }

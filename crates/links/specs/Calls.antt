@@ -52,6 +52,12 @@ withTable l t = record { table = t; modem = l .modem; socket = l .socket }
 unfoldable pub choosing : Links → Table → Outcome
 choosing l t = cond (inRange l) (taken (withTable l t) silence) (refused l Broken)
 
+abbrev pub withLocal : Links → Outcome
+withLocal l = choosing l localTable
+
+abbrev pub withConnected : Links → Outcome
+withConnected l = choosing l connectedTable
+
 -- ---- a value is handed in
 
 -- only a link command changes the table

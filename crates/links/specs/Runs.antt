@@ -9,7 +9,7 @@ use Rattle.values.specs.Large.{Values}
 use Rattle.wiring.specs.declared.Module.{Module}
 use Rattle.wiring.specs.declared.Module.the-variants.{Modem, Socket}
 use Rattle.wiring.specs.Modules.{same}
-use Rattle.wiring.specs.Tables.{localTable, connectedTable, reaches, NoneItself}
+use Rattle.wiring.specs.Tables.{reaches, NoneItself}
 use Rattle.replies.specs.Replies.{replyOf}
 use Rattle.commands.specs.declared.Unfinished.{Unfinished}
 use Rattle.commands.specs.declared.Unfinished.the-variants.{Free}
@@ -19,7 +19,7 @@ use Rattle.links.specs.declared.Links.{Links}
 use Rattle.links.specs.declared.Answer.the-variants.{Taken}
 use Rattle.links.specs.declared.Outcome.{Outcome}
 use Rattle.links.specs.States.{inRange}
-use Rattle.links.specs.Calls.{choosing, fromKeyboard, fromModem, fromSocket}
+use Rattle.links.specs.Calls.{withLocal, withConnected, fromKeyboard, fromModem, fromSocket}
 
 -- "Commands are heard from modem and socket only"
 pub data Ear : Type 0 where
@@ -61,8 +61,8 @@ fromEar socket l v = fromSocket l v
 abbrev pub obey : Call → Links → Outcome
 obey (key v) l = fromKeyboard l v
 obey (value e v) l = fromEar e l v
-obey toLocal l = choosing l localTable
-obey toConnected l = choosing l connectedTable
+obey toLocal l = withLocal l
+obey toConnected l = withConnected l
 
 -- what a receiver gets from a call
 abbrev pub given : Links → Call → Module → List ℕ

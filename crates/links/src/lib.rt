@@ -6,11 +6,10 @@
 // means, `sending` what goes out. specs/States says what a state is, specs/Calls what each call does, specs/Runs what a
 // whole run is; proofs/ holds their laws.
 ghost use mathlib.Core.Path.{_≡_};
-ghost use Rattle.wiring.specs.Tables.{localTable, connectedTable};
 ghost use Rattle.sending.specs.Sending.{silence};
 ghost use Rattle.links.specs.States.{localLinks, connectedLinks, inRange};
-ghost use Rattle.links.specs.Calls.{giving, choosing, tableAfter, modemHeard, socketHeard};
-ghost use Rattle.links.specs.Calls.{fromKeyboard, fromModem, fromSocket};
+ghost use Rattle.links.specs.Calls.{giving, choosing, withLocal, withConnected};
+ghost use Rattle.links.specs.Calls.{tableAfter, modemHeard, socketHeard, fromKeyboard, fromModem, fromSocket};
 use commands::Heard;
 use commands::Order;
 use commands::Unfinished;
@@ -121,14 +120,14 @@ impl Links {
 
     // The host chooses the local table; what is unfinished stays.
     pub fn with_local(self) -> Outcome
-        ensures { λ r. ⌜ r ≡ choosing self localTable ⌝ }
+        ensures { λ r. ⌜ r ≡ withLocal self ⌝ }
     {
         self.choose(wiring::local_table())
     }
 
     // The host chooses the connected table.
     pub fn with_connected(self) -> Outcome
-        ensures { λ r. ⌜ r ≡ choosing self connectedTable ⌝ }
+        ensures { λ r. ⌜ r ≡ withConnected self ⌝ }
     {
         self.choose(wiring::connected_table())
     }

@@ -2,7 +2,7 @@
 -- nothing.
 use mathlib.Core.Path.{_≡_, refl}
 use mathlib.Core.Bool.{Bool, true, false, cond}
-use mathlib.Core.List.{[], _∷_, map}
+use mathlib.Core.List.{[], _∷_}
 use Prim.Native.Nat.{ℕ, _/_, _%_, _≤_}
 use native.Mathlib.Omega.{arith}
 use lib.ListN.{length}
@@ -14,7 +14,7 @@ use Rattle.wiring.specs.declared.Table.{Table}
 use Rattle.wiring.specs.Modules.{receiverCode}
 use Rattle.wiring.specs.Tables.{row, localTable, connectedTable}
 use Rattle.wiring.proofs.Small.{receiver-small}
-use Rattle.replies.specs.Replies.{shown, columnOf, weighed, summed, statusOf, replyOf, weightOf}
+use Rattle.replies.specs.Replies.{shown, columnOf, weighed, summed, statusOf, replyOf, statusesOf, weightOf}
 
 -- ---- how large it is
 
@@ -88,12 +88,11 @@ status-bit t r Keyboard = bits (shown t r Screen) (shown t r Keyboard) (shown t 
 status-bit t r Modem = bits (shown t r Screen) (shown t r Keyboard) (shown t r Modem) (shown t r Socket) .3
 status-bit t r Socket = bits (shown t r Screen) (shown t r Keyboard) (shown t r Modem) (shown t r Socket) .4
 
--- the statuses of screen, keyboard, modem and socket in the two standard tables
-pub local-statuses : map (statusOf localTable) (Screen ∷ Keyboard ∷ Modem ∷ Socket ∷ []) ≡ 77 ∷ 66 ∷ 70 ∷ 74 ∷ []
+-- in the two standard tables
+pub local-statuses : statusesOf localTable ≡ 77 ∷ 66 ∷ 70 ∷ 74 ∷ []
 unfolding statusOf
 local-statuses = refl
 
-pub connected-statuses : map (statusOf connectedTable) (Screen ∷ Keyboard ∷ Modem ∷ Socket ∷ [])
-    ≡ 69 ∷ 66 ∷ 78 ∷ 76 ∷ []
+pub connected-statuses : statusesOf connectedTable ≡ 69 ∷ 66 ∷ 78 ∷ 76 ∷ []
 unfolding statusOf
 connected-statuses = refl

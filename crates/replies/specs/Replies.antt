@@ -33,6 +33,10 @@ statusOf t receiver = summed (columnOf t receiver)
 unfoldable pub replyOf : Table → Module → List ℕ
 replyOf t receiver = 27 ∷ 59 ∷ 99 ∷ receiverCode receiver ∷ statusOf t receiver ∷ []
 
+-- those of screen, keyboard, modem and socket
+abbrev pub statusesOf : Table → List ℕ
+statusesOf t = statusOf t Screen ∷ statusOf t Keyboard ∷ statusOf t Modem ∷ statusOf t Socket ∷ []
+
 -- a module's weight in a status
 abbrev pub weightOf : Module → ℕ
 weightOf Screen = 1

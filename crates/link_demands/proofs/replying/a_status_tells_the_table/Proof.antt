@@ -1,0 +1,10 @@
+-- The theorem is proved where its words are. Assumes nothing.
+use Rattle.replies.proofs.Statuses.{status-bit, status-column}
+use Rattle.link_demands.proofs.replying.a_status_tells_the_table.Statement.{statement}
+use Rattle.link_demands.proofs.replying.a_status_tells_the_table.Tie as tie
+
+returns : tie.Need-returns
+returns c = (status-bit, status-column)
+
+pub a-status-tells-the-table-spec : {M : Type 1} → statement M
+a-status-tells-the-table-spec = tie.close (tie.spec returns)

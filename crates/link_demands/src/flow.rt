@@ -1,0 +1,36 @@
+// Demand 2 on the links: what is passed on. A run is a list of calls, keys, values and choices of a table in any order;
+// `Says e l cs vs` is a run from a state in range with nothing unfinished from modem or socket, in which that one says
+// the values vs and anything else may be called in between.
+ghost use mathlib.Core.Path.{_≡_};
+ghost use mathlib.Core.List.{List, [], _∷_, map};
+ghost use Prim.Native.Nat.{ℕ, _<_};
+ghost use Rattle.values.specs.Large.{Values};
+ghost use Rattle.wiring.specs.declared.Module.the-variants.{Keyboard};
+ghost use Rattle.commands.specs.declared.Unfinished.the-variants.{Free};
+ghost use Rattle.links.specs.declared.Links.{Links};
+ghost use Rattle.links.specs.States.{localLinks};
+ghost use Rattle.links.specs.Runs.{Ear, nameOf, unfinished, Call, key, value, obey, run};
+ghost use Rattle.links.specs.Runs.{InRange, Says, PassedOn, freed, Swallowed};
+
+// A value other than ESC from modem or socket with nothing unfinished, and any value from the keyboard, reaches just the
+// receivers that its sender is linked to, and changes no state.
+pub fn values_go_by_the_links()
+    ensures heard { λ _. ⌜ ((l : Links) (e : Ear) (v : ℕ) → InRange l → unfinished l e ≡ Free → v < 128 → (v ≡ 27 → ⊥)
+        → PassedOn l (value e v) (nameOf e) (v ∷ []) l) ⌝ }
+    ensures keys { λ _. ⌜ ((l : Links) (v : ℕ) → InRange l → v < 128 → PassedOn l (key v) Keyboard (v ∷ []) l) ⌝ }
+{}
+
+// A value from the keyboard changes no state at all, whatever the value and the state.
+pub fn keys_change_nothing()
+    ensures { λ _. ⌜ ((l : Links) (v : ℕ) → obey (key v) l .next ≡ l) ⌝ }
+{}
+
+// ESC sends nothing by itself. It and a next code that begins no command reach, together and in order, just the
+// receivers linked at the time of that code.
+pub fn esc_goes_with_its_next_code()
+    ensures held { λ _. ⌜ ((e : Ear) (l : Links) (cs : List Call) → Says e l cs [] → Swallowed (run l cs) e 27) ⌝ }
+    ensures pairs { λ _. ⌜ ((e : Ear) (l : Links) (cs : List Call) (v : ℕ) → Says e l cs (27 ∷ []) → v < 128
+        → (v ≡ 57 → ⊥) → (v ≡ 58 → ⊥) → (v ≡ 59 → ⊥)
+        → PassedOn (run l cs) (value e v) (nameOf e) (27 ∷ v ∷ []) (freed (run l cs) e)) ⌝ }
+    ensures met { λ _. ⌜ ((e : Ear) (vs : List ℕ) → Values vs → Says e localLinks (map (value e) vs) vs) ⌝ }
+{}
