@@ -8,12 +8,12 @@ use Rattle.laws.proofs.Computed.{chosen}
 use Rattle.wiring.specs.declared.Module.{Module}
 use Rattle.wiring.specs.declared.Module.the-variants.{Screen, Keyboard, Modem, Socket}
 use Rattle.wiring.specs.Modules.{receiverCode, senderCode}
-use Rattle.commands.specs.declared.naming.Named.{Named}
-use Rattle.commands.specs.declared.naming.Named.the-variants.{Is, Nobody}
+use Rattle.commands.specs.declared.Named.{Named}
+use Rattle.commands.specs.declared.Named.the-variants.{Is, Nobody}
 use Rattle.commands.specs.declared.Order.{Order}
-use Rattle.commands.specs.declared.Order.the-variants.{Nothing, Link, Ask}
+use Rattle.commands.specs.declared.Order.the-variants.{Nothing, Pass, Pair, Link, Ask}
 use Rattle.commands.specs.Commands.{Command, pro1, pro2, pro3, named, asking, linking, ordered}
-use Rattle.commands.specs.Commands.{linkCommand, askCommand, SpelledFor}
+use Rattle.commands.specs.Commands.{linkCommand, askCommand, SpelledFor, SmallOrder}
 
 -- ---- what is known is ordered
 
@@ -75,3 +75,15 @@ spelled-for (pro3 x y z) =
     (λ e. chosen (λ (o : Order). SpelledFor o (pro3 x y z)) (eqb x 96)
     (λ f. linked x y z false (eqb-true x 96 f) (named receiverCode y) (named senderCode z) (code-for receiverCode y) (code-for senderCode z))
     (λ f. tt))
+
+-- ---- nothing of a command is passed on
+
+pub small-ordered : (c : Command) → SmallOrder (ordered c)
+small-ordered c = go (ordered c) (spelled-for c)
+  where
+    go : (o : Order) → SpelledFor o c → SmallOrder o
+    go Nothing s = tt
+    go (Pass v) s = absurd s
+    go (Pair v) s = absurd s
+    go (Link receiver sender on) s = tt
+    go (Ask receiver) s = tt

@@ -1,3 +1,1 @@
 pub mod Known
-pub mod Spelling
-pub mod Ranges

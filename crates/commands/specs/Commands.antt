@@ -3,13 +3,13 @@
 use mathlib.Core.Path.{_≡_}
 use mathlib.Core.Bool.{Bool, true, false, cond}
 use mathlib.Core.List.{List, [], _∷_}
-use Prim.Native.Nat.{ℕ}
+use Prim.Native.Nat.{ℕ, _<_}
 use lib.Dec.{eqb}
 use Rattle.wiring.specs.declared.Module.{Module}
 use Rattle.wiring.specs.declared.Module.the-variants.{Screen, Keyboard, Modem, Socket}
 use Rattle.wiring.specs.Modules.{receiverCode, senderCode}
-use Rattle.commands.specs.declared.naming.Named.{Named}
-use Rattle.commands.specs.declared.naming.Named.the-variants.{Is, Nobody}
+use Rattle.commands.specs.declared.Named.{Named}
+use Rattle.commands.specs.declared.Named.the-variants.{Is, Nobody}
 use Rattle.commands.specs.declared.Order.{Order}
 use Rattle.commands.specs.declared.Order.the-variants.{Nothing, Pass, Pair, Link, Ask}
 
@@ -84,3 +84,11 @@ SpelledFor (Pass v) c = ⊥
 SpelledFor (Pair v) c = ⊥
 SpelledFor (Link receiver sender on) c = c ≡ linkCommand receiver sender on
 SpelledFor (Ask receiver) c = c ≡ askCommand receiver
+
+-- what is passed on is a value of 0 to 127
+abbrev pub SmallOrder : Order → Type 0
+SmallOrder Nothing = Unit {0}
+SmallOrder (Pass v) = v < 128
+SmallOrder (Pair v) = v < 128
+SmallOrder (Link receiver sender on) = Unit {0}
+SmallOrder (Ask receiver) = Unit {0}

@@ -1,31 +1,12 @@
-// What one value from modem or socket means (01, "Links and commands"; 001, part 2, chapter 6, sections 1 to 3): it is
-// passed on, waits for more, or ends a command.
+// What a whole command orders (01, "Links and commands"; 001, part 2, chapter 6, sections 1 to 3). A command that names
+// nobody is unknown, and orders nothing.
 //
-// `hear` takes an unfinished sequence and one value, and says what is unfinished then and what is ordered. It knows no
-// table. specs/Commands says how each command is spelled and what it orders, specs/Hearing what each value means;
-// proofs/ shows that the second takes in just the commands of the first.
+// specs/Commands says how each command is spelled and what it orders; proofs/ shows that a link or ask command orders just
+// that, and no other command anything.
 ghost use mathlib.Core.Path.{_≡_};
-ghost use Rattle.commands.specs.Hearing.{inRange, holds, does, begun, escaped, heard};
-
-mod naming;
-
-use naming::ask_for;
-use naming::link_by;
+ghost use Rattle.wiring.specs.Modules.{receiverCode, senderCode};
+ghost use Rattle.commands.specs.Commands.{named, asking, linking, orderedByTwo, orderedByThree};
 use wiring::Module;
-
-// An unfinished sequence.
-pub enum Unfinished {
-    Free,
-    // ESC.
-    Escape,
-    // ESC and 3/9, 3/A or 3/B, with fewer codes than it takes.
-    Pro1,
-    Pro2,
-    Pro2With(u8),
-    Pro3,
-    Pro3With(u8),
-    Pro3Both(u8, u8),
-}
 
 // What is to be done.
 pub enum Order {
@@ -44,81 +25,82 @@ pub enum Order {
     Ask(Module),
 }
 
-pub struct Heard {
-    pub unfinished: Unfinished,
-    pub order: Order,
+// The module that a code names.
+enum Named {
+    Is(Module),
+    Nobody,
 }
 
-// Whether each code so far is at most 127.
-pub fn in_range(unfinished: Unfinished) -> bool
-    ensures { λ r. ⌜ r ≡ inRange unfinished ⌝ }
+// 5/8 to 5/B.
+fn receiver(code: u8) -> Named
+    ensures { λ r. ⌜ r ≡ named receiverCode code ⌝ }
 {
-    match unfinished {
-        Unfinished::Free => true,
-        Unfinished::Escape => true,
-        Unfinished::Pro1 => true,
-        Unfinished::Pro2 => true,
-        Unfinished::Pro2With(first) => first <= 127,
-        Unfinished::Pro3 => true,
-        Unfinished::Pro3With(first) => first <= 127,
-        Unfinished::Pro3Both(first, second) => first <= 127 && second <= 127,
+    match code {
+        88 => Named::Is(Module::Screen),
+        89 => Named::Is(Module::Keyboard),
+        90 => Named::Is(Module::Modem),
+        91 => Named::Is(Module::Socket),
+        _ => Named::Nobody,
     }
 }
 
-// The code is taken, and nothing is done yet.
-fn hold(unfinished: Unfinished) -> Heard
-    ensures { λ r. ⌜ r ≡ holds unfinished ⌝ }
+// 5/0 to 5/3.
+fn sender(code: u8) -> Named
+    ensures { λ r. ⌜ r ≡ named senderCode code ⌝ }
 {
-    Heard {
-        unfinished,
-        order: Order::Nothing,
+    match code {
+        80 => Named::Is(Module::Screen),
+        81 => Named::Is(Module::Keyboard),
+        82 => Named::Is(Module::Modem),
+        83 => Named::Is(Module::Socket),
+        _ => Named::Nobody,
     }
 }
 
-// The sequence is over, and this is to be done.
-fn finish(order: Order) -> Heard
-    ensures { λ r. ⌜ r ≡ does order ⌝ }
+fn ask(receiver: Named) -> Order
+    ensures { λ r. ⌜ r ≡ asking receiver ⌝ }
 {
-    Heard {
-        unfinished: Unfinished::Free,
-        order,
+    match receiver {
+        Named::Is(receiver) => Order::Ask(receiver),
+        Named::Nobody => Order::Nothing,
     }
 }
 
-// With nothing unfinished.
-fn begin(value: u8) -> Heard
-    ensures { λ r. ⌜ r ≡ begun value ⌝ }
+fn link(receiver: Named, sender: Named, on: bool) -> Order
+    ensures { λ r. ⌜ r ≡ linking receiver sender on ⌝ }
 {
-    if value == 27 {
-        return hold(Unfinished::Escape);
-    }
-    finish(Order::Pass(value))
-}
-
-// After ESC.
-fn escape(value: u8) -> Heard
-    ensures { λ r. ⌜ r ≡ escaped value ⌝ }
-{
-    match value {
-        57 => hold(Unfinished::Pro1),
-        58 => hold(Unfinished::Pro2),
-        59 => hold(Unfinished::Pro3),
-        _ => finish(Order::Pair(value)),
+    match receiver {
+        Named::Is(receiver) => match sender {
+            Named::Is(sender) => Order::Link {
+                receiver,
+                sender,
+                on,
+            },
+            Named::Nobody => Order::Nothing,
+        },
+        Named::Nobody => Order::Nothing,
     }
 }
 
-// One value, after the sequence so far.
-pub fn hear(unfinished: Unfinished, value: u8) -> Heard
-    ensures { λ r. ⌜ r ≡ heard unfinished value ⌝ }
+// PRO2: 6/2 and a receiver ask.
+pub fn pro2(first: u8, second: u8) -> Order
+    ensures { λ r. ⌜ r ≡ orderedByTwo first second ⌝ }
 {
-    match unfinished {
-        Unfinished::Free => begin(value),
-        Unfinished::Escape => escape(value),
-        Unfinished::Pro1 => finish(Order::Nothing),
-        Unfinished::Pro2 => hold(Unfinished::Pro2With(value)),
-        Unfinished::Pro2With(first) => finish(ask_for(first, value)),
-        Unfinished::Pro3 => hold(Unfinished::Pro3With(value)),
-        Unfinished::Pro3With(first) => hold(Unfinished::Pro3Both(first, value)),
-        Unfinished::Pro3Both(first, second) => finish(link_by(first, second, value)),
+    if first == 98 {
+        return ask(receiver(second));
     }
+    Order::Nothing
+}
+
+// PRO3: 6/1 sets and 6/0 clears the link from a sender to a receiver.
+pub fn pro3(first: u8, second: u8, third: u8) -> Order
+    ensures { λ r. ⌜ r ≡ orderedByThree first second third ⌝ }
+{
+    if first == 97 {
+        return link(receiver(second), sender(third), true);
+    }
+    if first == 96 {
+        return link(receiver(second), sender(third), false);
+    }
+    Order::Nothing
 }

@@ -6,10 +6,11 @@ ghost use mathlib.Core.List.{List, [], _∷_, map};
 ghost use Prim.Native.Nat.{ℕ, _<_};
 ghost use Rattle.values.specs.Large.{Values};
 ghost use Rattle.wiring.specs.declared.Module.the-variants.{Keyboard};
-ghost use Rattle.commands.specs.declared.Unfinished.the-variants.{Free};
+ghost use Rattle.hearing.specs.declared.Unfinished.the-variants.{Free};
 ghost use Rattle.links.specs.declared.Links.{Links};
-ghost use Rattle.links.specs.States.{localLinks};
-ghost use Rattle.links.specs.Runs.{Ear, nameOf, unfinished, Call, key, value, obey, run};
+ghost use Rattle.links.specs.declared.Ear.{Ear};
+ghost use Rattle.links.specs.States.{localLinks, nameOf, unfinished};
+ghost use Rattle.links.specs.Runs.{Call, key, value, obey, run};
 ghost use Rattle.links.specs.Runs.{InRange, Says, PassedOn, freed, Swallowed};
 
 // A value other than ESC from modem or socket with nothing unfinished, and any value from the keyboard, reaches just the

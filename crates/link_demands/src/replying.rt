@@ -10,13 +10,15 @@ ghost use Rattle.wiring.specs.declared.Table.{Table};
 ghost use Rattle.wiring.specs.Modules.{same, receiverCode, senderCode};
 ghost use Rattle.wiring.specs.Tables.{reaches};
 ghost use Rattle.replies.specs.Replies.{shown, statusOf, weightOf};
-ghost use Rattle.commands.specs.declared.Unfinished.the-variants.{Free};
+ghost use Rattle.hearing.specs.declared.Unfinished.the-variants.{Free};
 ghost use Rattle.commands.specs.declared.Order.the-variants.{Nothing, Link, Ask};
 ghost use Rattle.commands.specs.Commands.{Command, spelled, beginning, lastOf, ordered, linkCommand, askCommand};
 ghost use Rattle.commands.specs.Commands.{SpelledFor};
-ghost use Rattle.commands.specs.Hearing.{codesOf};
+ghost use Rattle.hearing.specs.Hearing.{codesOf};
 ghost use Rattle.links.specs.declared.Links.{Links};
-ghost use Rattle.links.specs.Runs.{Ear, unfinished, Call, value, obey, run, Says, Swallowed, Answered};
+ghost use Rattle.links.specs.declared.Ear.{Ear};
+ghost use Rattle.links.specs.States.{unfinished};
+ghost use Rattle.links.specs.Runs.{Call, value, obey, run, Says, Swallowed, Answered};
 
 // PRO3 with 6/1 or 6/0, a receiver and a sender orders that link set or cleared, PRO2 with 6/2 and a receiver asks for
 // its status, and no other command orders anything.

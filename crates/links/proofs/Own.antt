@@ -11,23 +11,24 @@ use Rattle.values.specs.Large.{Values}
 use Rattle.values.proofs.Found.{values-head, values-tail}
 use Rattle.wiring.specs.declared.Table.{Table}
 use Rattle.wiring.specs.Tables.{localTable, connectedTable}
-use Rattle.commands.specs.declared.Unfinished.{Unfinished}
-use Rattle.commands.specs.declared.Unfinished.the-variants.{Free}
-use Rattle.commands.specs.Hearing.{heard, leftAfter}
-use Rattle.commands.proofs.Spelling.{left-append}
+use Rattle.hearing.specs.declared.Unfinished.{Unfinished}
+use Rattle.hearing.specs.declared.Unfinished.the-variants.{Free}
+use Rattle.hearing.specs.Hearing.{heard, leftAfter}
+use Rattle.hearing.proofs.Spelling.{left-append}
 use Rattle.links.specs.declared.Links.{Links}
+use Rattle.links.specs.declared.Ear.{Ear}
+use Rattle.links.specs.declared.Ear.the-variants.{Modem as modem, Socket as socket}
 use Rattle.links.specs.declared.Outcome.{Outcome}
-use Rattle.links.specs.States.{inRange, localLinks}
-use Rattle.links.specs.Calls.{choosing}
-use Rattle.links.specs.Runs.{Ear, modem, socket, sameEar, unfinished, Call, key, value, toLocal, toConnected}
-use Rattle.links.specs.Runs.{fromEar, obey, run, saidAt, said, InRange, Says}
+use Rattle.links.specs.States.{unfinished, inRange, localLinks}
+use Rattle.links.specs.Calls.{choosing, fromEar}
+use Rattle.links.specs.Runs.{sameEar, Call, key, value, toLocal, toConnected, obey, run, saidAt, said, InRange, Says}
 use Rattle.links.proofs.Steps.{accepted, own-heard, other-heard, keys-change-nothing}
 use Rattle.links.proofs.Ranges.{passed, kept, local-in}
 use Rattle.links.proofs.Refusals.{large, small}
 
 -- a value from an ear, taken or refused
 took : (e f : Ear) (l : Links) (v : ℕ) → inRange l ≡ true → (t : Bool) → ltb 127 v ≡ t
-    → unfinished (fromEar f l v .next) e ≡ leftAfter (unfinished l e) (cond (sameEar e f) (cond t [] (v ∷ [])) [])
+    → unfinished (fromEar l f v .next) e ≡ leftAfter (unfinished l e) (cond (sameEar e f) (cond t [] (v ∷ [])) [])
 took modem modem l v i true h = ap (λ (o : Outcome). o .next .modem) (large (value modem v) l i h)
 took modem socket l v i true h = ap (λ (o : Outcome). o .next .modem) (large (value socket v) l i h)
 took socket modem l v i true h = ap (λ (o : Outcome). o .next .socket) (large (value modem v) l i h)

@@ -9,24 +9,23 @@ use borrow.Author.Tests.{ltb-false}
 use Rattle.laws.proofs.Computed.{chosen, and-left, and-right, holds, is-true, both}
 use Rattle.values.specs.Large.{Values}
 use Rattle.values.proofs.Found.{values-none}
-use Rattle.wiring.specs.declared.Module.{Module}
+use Rattle.wiring.specs.declared.Module.the-variants.{Modem, Socket}
 use Rattle.wiring.specs.declared.Table.{Table}
-use Rattle.wiring.specs.Tables.{localTable, connectedTable, selfLinked, reaches, NoneItself}
-use Rattle.wiring.proofs.Selves.{self-kept, tested as selves-tested, passed as selves-passed}
+use Rattle.wiring.specs.Tables.{localTable, connectedTable, selfLinked, NoneItself}
+use Rattle.wiring.proofs.Selves.{tested as selves-tested, passed as selves-passed}
 use Rattle.wiring.proofs.Selves.{local-none, connected-none}
-use Rattle.commands.specs.declared.Unfinished.{Unfinished}
-use Rattle.commands.specs.declared.Unfinished.the-variants.{Free}
-use Rattle.commands.specs.declared.Order.{Order}
-use Rattle.commands.specs.declared.Order.the-variants.{Nothing, Pass, Pair, Link, Ask}
-use Rattle.commands.specs.declared.Heard.{Heard}
-use Rattle.commands.specs.Hearing.{codesOf, inRange as sequenceInRange, heard}
-use Rattle.commands.proofs.Ranges.{tested as codes-tested, passed as codes-passed, kept as codes-kept}
+use Rattle.hearing.specs.declared.Unfinished.{Unfinished}
+use Rattle.hearing.specs.declared.Unfinished.the-variants.{Free}
+use Rattle.hearing.specs.Hearing.{codesOf, inRange as sequenceInRange, heard}
+use Rattle.hearing.proofs.Ranges.{tested as codes-tested, passed as codes-passed, kept as codes-kept}
+use Rattle.sending.proofs.Getting.{none-itself-after}
 use Rattle.links.specs.declared.Links.{Links}
+use Rattle.links.specs.declared.Ear.{Ear}
+use Rattle.links.specs.declared.Ear.the-variants.{Modem as modem, Socket as socket}
 use Rattle.links.specs.declared.Outcome.{Outcome}
-use Rattle.links.specs.States.{starting, localLinks, connectedLinks, inRange}
-use Rattle.links.specs.Calls.{withTable, choosing, tableAfter, modemHeard, socketHeard, fromModem, fromSocket}
-use Rattle.links.specs.Runs.{Ear, modem, socket, unfinished, Call, key, value, toLocal, toConnected, fromEar, obey, run}
-use Rattle.links.specs.Runs.{InRange}
+use Rattle.links.specs.States.{unfinished, starting, localLinks, connectedLinks, inRange}
+use Rattle.links.specs.Calls.{withTable, choosing, taking, fromEar}
+use Rattle.links.specs.Runs.{Call, key, value, toLocal, toConnected, obey, run, InRange}
 use Rattle.links.proofs.Steps.{keys-change-nothing}
 
 -- ---- the test
@@ -70,31 +69,21 @@ chosen-kept : (l : Links) (t : Table) → NoneItself t → InRange l → InRange
 unfolding choosing
 chosen-kept l t n r = chosen (λ (o : Outcome). InRange (o .next)) (inRange l) (λ i. with-table l t n r) (λ i. r)
 
-table-kept : (t : Table) (o : Order) → NoneItself t → NoneItself (tableAfter t o)
-table-kept t Nothing n = n
-table-kept t (Pass v) n = n
-table-kept t (Pair v) n = n
-table-kept t (Link receiver sender on) n = λ m. self-kept t receiver sender m on ∙ n m
-table-kept t (Ask receiver) n = n
-
 codes-still : (u : Unfinished) (v : ℕ) → Values (codesOf u) → v ≤ 127 → Values (codesOf (heard u v .unfinished))
 codes-still u v s h = codes-tested (heard u v .unfinished) (codes-kept u v (codes-passed u s) h)
 
-modem-kept : (l : Links) (v : ℕ) → InRange l → v ≤ 127 → InRange (modemHeard l (heard (l .modem) v) .next)
-unfolding modemHeard
-modem-kept l v r h =
-    record { none-itself = table-kept (l .table) (heard (l .modem) v .order) (r .none-itself); small = small }
+heard-kept : (l : Links) (e : Ear) (v : ℕ) → InRange l → v ≤ 127 → InRange (taking l e (heard (unfinished l e) v) .next)
+unfolding taking
+heard-kept l modem v r h =
+    record { none-itself = none-itself-after (l .table) Modem (heard (l .modem) v .order) (r .none-itself); small = small }
   where
-    small : (e : Ear) → Values (codesOf (unfinished (modemHeard l (heard (l .modem) v) .next) e))
+    small : (e : Ear) → Values (codesOf (unfinished (taking l modem (heard (l .modem) v) .next) e))
     small modem = codes-still (l .modem) v (r .small modem) h
     small socket = r .small socket
-
-socket-kept : (l : Links) (v : ℕ) → InRange l → v ≤ 127 → InRange (socketHeard l (heard (l .socket) v) .next)
-unfolding socketHeard
-socket-kept l v r h =
-    record { none-itself = table-kept (l .table) (heard (l .socket) v .order) (r .none-itself); small = small }
+heard-kept l socket v r h =
+    record { none-itself = none-itself-after (l .table) Socket (heard (l .socket) v .order) (r .none-itself); small = small }
   where
-    small : (e : Ear) → Values (codesOf (unfinished (socketHeard l (heard (l .socket) v) .next) e))
+    small : (e : Ear) → Values (codesOf (unfinished (taking l socket (heard (l .socket) v) .next) e))
     small modem = r .small modem
     small socket = codes-still (l .socket) v (r .small socket) h
 
@@ -102,14 +91,11 @@ Keeps : Outcome → Type 0
 Keeps o = InRange (o .next)
 
 pub kept : (c : Call) (l : Links) → InRange l → InRange (obey c l .next)
-unfolding fromModem fromSocket Keeps
+unfolding fromEar Keeps
 kept (key v) l r = subst⁻¹ InRange (keys-change-nothing l v) r
-kept (value modem v) l r =
+kept (value e v) l r =
     chosen Keeps (inRange l)
-    (λ i. chosen Keeps (ltb 127 v) (λ h. r) (λ h. modem-kept l v r (ltb-false 127 v h))) (λ i. r)
-kept (value socket v) l r =
-    chosen Keeps (inRange l)
-    (λ i. chosen Keeps (ltb 127 v) (λ h. r) (λ h. socket-kept l v r (ltb-false 127 v h))) (λ i. r)
+    (λ i. chosen Keeps (ltb 127 v) (λ h. r) (λ h. heard-kept l e v r (ltb-false 127 v h))) (λ i. r)
 kept toLocal l r = chosen-kept l localTable local-none r
 kept toConnected l r = chosen-kept l connectedTable connected-none r
 

@@ -9,29 +9,27 @@ use borrow.Author.Tests.{ltb-false}
 use Rattle.laws.proofs.Computed.{fails}
 use Rattle.numbers.specs.Numbers.{Conditions, numberOf, Told}
 use Rattle.wiring.specs.Tables.{localTable, connectedTable}
-use Rattle.commands.specs.Hearing.{heard}
+use Rattle.hearing.specs.Hearing.{heard}
 use Rattle.links.specs.declared.Links.{Links}
 use Rattle.links.specs.declared.Answer.{Answer}
 use Rattle.links.specs.declared.Answer.the-variants.{Taken, TooLarge, Broken}
 use Rattle.links.specs.declared.Outcome.{Outcome}
-use Rattle.links.specs.States.{inRange}
-use Rattle.links.specs.Calls.{told, refused, choosing, fromKeyboard, fromModem, fromSocket}
-use Rattle.links.specs.Runs.{modem, socket, unfinished, Call, key, value, toLocal, toConnected, obey, tooLarge, callTold}
+use Rattle.links.specs.States.{unfinished, inRange}
+use Rattle.links.specs.Calls.{told, refused, choosing, fromEar, fromKeyboard}
+use Rattle.links.specs.Runs.{Call, key, value, toLocal, toConnected, obey, tooLarge, callTold}
 use Rattle.links.proofs.Steps.{accepted, key-accepted, table-chosen, answer-heard}
 
 pub broken : (c : Call) (l : Links) → inRange l ≡ false → obey c l ≡ refused l Broken
-unfolding choosing fromKeyboard fromModem fromSocket
+unfolding choosing fromEar fromKeyboard
 broken (key v) l i = simp i
-broken (value modem v) l i = simp i
-broken (value socket v) l i = simp i
+broken (value e v) l i = simp i
 broken toLocal l i = simp i
 broken toConnected l i = simp i
 
 pub large : (c : Call) (l : Links) → inRange l ≡ true → tooLarge c ≡ true → obey c l ≡ refused l TooLarge
-unfolding fromKeyboard fromModem fromSocket
+unfolding fromEar fromKeyboard
 large (key v) l i h = simp (i, h)
-large (value modem v) l i h = simp (i, h)
-large (value socket v) l i h = simp (i, h)
+large (value e v) l i h = simp (i, h)
 large toLocal l i h = absurd (fails (sym h) tt)
 large toConnected l i h = absurd (fails (sym h) tt)
 

@@ -9,28 +9,27 @@ use Rattle.wiring.specs.declared.Module.{Module}
 use Rattle.wiring.specs.declared.Table.{Table}
 use Rattle.wiring.specs.Modules.{same, receiverCode, senderCode}
 use Rattle.wiring.specs.Tables.{reaches}
-use Rattle.wiring.proofs.Pairs.{linked-pairs}
 use Rattle.wiring.proofs.Small.{receiver-small, sender-small}
 use Rattle.replies.specs.Replies.{replyOf}
-use Rattle.commands.specs.declared.Unfinished.{Unfinished}
-use Rattle.commands.specs.declared.Unfinished.the-variants.{Free}
+use Rattle.hearing.specs.declared.Unfinished.{Unfinished}
+use Rattle.hearing.specs.declared.Unfinished.the-variants.{Free}
 use Rattle.commands.specs.declared.Order.{Order}
 use Rattle.commands.specs.declared.Order.the-variants.{Nothing, Link, Ask}
-use Rattle.commands.specs.declared.Heard.{Heard}
+use Rattle.hearing.specs.declared.Heard.{Heard}
 use Rattle.commands.specs.Commands.{Command, spelled, beginning, lastOf, ordered, linkCommand, askCommand}
-use Rattle.commands.specs.Hearing.{codesOf, does, heard, leftAfter}
+use Rattle.hearing.specs.Hearing.{codesOf, does, heard, leftAfter}
 use Rattle.commands.proofs.Known.{link-ordered, ask-ordered}
-use Rattle.commands.proofs.Spelling.{midway, over, ends, waits}
+use Rattle.hearing.proofs.Spelling.{midway, over, ends, waits}
 use Rattle.sending.specs.declared.Sent.{Sent}
-use Rattle.sending.specs.Sending.{sentFor, gets}
-use Rattle.sending.proofs.Getting.{gets-nothing, nothing-sent, link-replied, ask-replied}
+use Rattle.sending.specs.Sending.{obeyed, gets}
+use Rattle.sending.proofs.Getting.{gets-nothing, nothing-sent, link-replied, ask-replied, table-after, pairs-after}
 use Rattle.links.specs.declared.Links.{Links}
+use Rattle.links.specs.declared.Ear.{Ear}
 use Rattle.links.specs.declared.Outcome.{Outcome}
-use Rattle.links.specs.States.{inRange}
-use Rattle.links.specs.Calls.{tableAfter}
-use Rattle.links.specs.Runs.{Ear, nameOf, other, unfinished, Call, value, fromEar, obey, run}
-use Rattle.links.specs.Runs.{Says, Swallowed, Answered}
-use Rattle.links.proofs.Steps.{earHeard, accepted, answer-heard, table-heard, own-heard, other-heard, sent-heard}
+use Rattle.links.specs.States.{nameOf, unfinished, inRange}
+use Rattle.links.specs.Calls.{taking, fromEar}
+use Rattle.links.specs.Runs.{other, Call, value, obey, run, Says, Swallowed, Answered}
+use Rattle.links.proofs.Steps.{accepted, answer-heard, table-heard, own-heard, other-heard, sent-heard}
 use Rattle.links.proofs.Ranges.{passed, run-kept}
 use Rattle.links.proofs.Refusals.{large, small}
 use Rattle.links.proofs.Own.{says-left}
@@ -53,12 +52,13 @@ Quiet l e o =
     × (unfinished (o .next) (other e) ≡ unfinished l (other e))
 
 -- what orders nothing does nothing
-quiet-heard : (e : Ear) (l : Links) (h : Heard) → h .order ≡ Nothing → Quiet l e (earHeard e l h)
+quiet-heard : (e : Ear) (l : Links) (h : Heard) → h .order ≡ Nothing → Quiet l e (taking l e h)
 unfolding Quiet
 quiet-heard e l h n = (
   λ m. ap (λ (s : Sent). gets s m) (sent-heard e l h)
-      ∙ ap (λ (o : Order). gets (sentFor (tableAfter (l .table) o) (nameOf e) o) m) n ∙ nothing-sent (l .table) (nameOf e) m,
-  table-heard e l h ∙ ap (tableAfter (l .table)) n,
+      ∙ ap (λ (o : Order). gets (obeyed (l .table) (nameOf e) o .sent) m) n ∙ nothing-sent (l .table) (nameOf e) m,
+  table-heard e l h ∙ ap (λ (o : Order). obeyed (l .table) (nameOf e) o .table) n
+      ∙ table-after (l .table) (nameOf e) Nothing,
   other-heard e l h,
 )
 
@@ -69,7 +69,7 @@ unfolding Quiet
 swallowed e l v i n =
     let q = go (ltb 127 v) refl in record { silent = q .0; table = q .1; other-kept = q .2 }
   where
-    go : (t : Bool) → ltb 127 v ≡ t → Quiet l e (fromEar e l v)
+    go : (t : Bool) → ltb 127 v ≡ t → Quiet l e (fromEar l e v)
     go true h = subst⁻¹ (Quiet l e) (large (value e v) l i h) (gets-nothing, refl, refl)
     go false h = subst⁻¹ (Quiet l e) (accepted e l v i (small v h)) (quiet-heard e l (heard (unfinished l e) v) n)
 
@@ -89,25 +89,26 @@ unknown-swallowed e l cs c n s =
 
 -- the last value of a command does what the command orders
 last-does : (e : Ear) (l : Links) (cs : List Call) (c : Command) (o : Order) → ordered c ≡ o → lastOf c < 128
-    → Says e l cs (beginning c) → fromEar e (run l cs) (lastOf c) ≡ earHeard e (run l cs) (does o)
+    → Says e l cs (beginning c) → fromEar (run l cs) e (lastOf c) ≡ taking (run l cs) e (does o)
 last-does e l cs c o q h s =
     accepted e (run l cs) (lastOf c) (passed (run l cs) (run-kept l cs (s .range))) h
-    ∙ ap (λ (u : Unfinished). earHeard e (run l cs) (heard u (lastOf c))) (says-left s)
-    ∙ ap (earHeard e (run l cs)) (ends c ∙ ap does q)
+    ∙ ap (λ (u : Unfinished). taking (run l cs) e (heard u (lastOf c))) (says-left s)
+    ∙ ap (taking (run l cs) e) (ends c ∙ ap does q)
 
 link-does : (e : Ear) (l : Links) (cs : List Call) (r s : Module) (on : Bool)
     → Says e l cs (beginning (linkCommand r s on))
-    → fromEar e (run l cs) (senderCode s) ≡ earHeard e (run l cs) (does (Link r s on))
+    → fromEar (run l cs) e (senderCode s) ≡ taking (run l cs) e (does (Link r s on))
 link-does e l cs r s on x =
     last-does e l cs (linkCommand r s on) (Link r s on) (link-ordered r s on) (sender-small s) x
 
 ask-does : (e : Ear) (l : Links) (cs : List Call) (r : Module) → Says e l cs (beginning (askCommand r))
-    → fromEar e (run l cs) (receiverCode r) ≡ earHeard e (run l cs) (does (Ask r))
+    → fromEar (run l cs) e (receiverCode r) ≡ taking (run l cs) e (does (Ask r))
 ask-does e l cs r x = last-does e l cs (askCommand r) (Ask r) (ask-ordered r) (receiver-small r) x
 
 -- the reply tells the table after the command
-answered : (e : Ear) (l : Links) (v : ℕ) (o : Order) (receiver : Module) → fromEar e l v ≡ earHeard e l (does o)
-    → ((t : Table) (m : Module) → gets (sentFor t (nameOf e) o) m ≡ cond (same m (nameOf e)) (replyOf t receiver) [])
+answered : (e : Ear) (l : Links) (v : ℕ) (o : Order) (receiver : Module) → fromEar l e v ≡ taking l e (does o)
+    → ((m : Module) → gets (obeyed (l .table) (nameOf e) o .sent) m
+    ≡ cond (same m (nameOf e)) (replyOf (obeyed (l .table) (nameOf e) o .table) receiver) [])
     → Answered l e v receiver
 answered e l v o receiver q g =
     record {
@@ -115,7 +116,7 @@ answered e l v o receiver q g =
       replied =
           λ m. subst⁻¹
           (λ (x : Outcome). gets (x .sent) m ≡ cond (same m (nameOf e)) (replyOf (x .next .table) receiver) []) q
-          (ap (λ (s : Sent). gets s m) (sent-heard e l (does o)) ∙ g (tableAfter (l .table) o) m
+          (ap (λ (s : Sent). gets s m) (sent-heard e l (does o)) ∙ g m
           ∙ ap (λ (t : Table). cond (same m (nameOf e)) (replyOf t receiver) []) (sym (table-heard e l (does o))));
       ended = ap (λ (x : Outcome). unfinished (x .next) e) q ∙ own-heard e l (does o);
       other-kept = ap (λ (x : Outcome). unfinished (x .next) (other e)) q ∙ other-heard e l (does o);
@@ -125,12 +126,12 @@ pub link-answered : (e : Ear) (l : Links) (cs : List Call) (receiver sender : Mo
     → Says e l cs (beginning (linkCommand receiver sender on)) → Answered (run l cs) e (senderCode sender) receiver
 link-answered e l cs r s on x =
     answered e (run l cs) (senderCode s) (Link r s on) r (link-does e l cs r s on x)
-    (λ t m. link-replied t (nameOf e) r s on m)
+    (link-replied (run l cs .table) (nameOf e) r s on)
 
 pub ask-answered : (e : Ear) (l : Links) (cs : List Call) (receiver : Module)
     → Says e l cs (beginning (askCommand receiver)) → Answered (run l cs) e (receiverCode receiver) receiver
 ask-answered e l cs r x =
-    answered e (run l cs) (receiverCode r) (Ask r) r (ask-does e l cs r x) (λ t m. ask-replied t (nameOf e) r m)
+    answered e (run l cs) (receiverCode r) (Ask r) r (ask-does e l cs r x) (ask-replied (run l cs .table) (nameOf e) r)
 
 -- ---- what changes
 
@@ -141,10 +142,11 @@ pub one-link : (e : Ear) (l : Links) (cs : List Call) (receiver sender : Module)
 one-link e l cs r s on x a b =
     ap (λ (o : Outcome). reaches (o .next .table) a b) (link-does e l cs r s on x)
     ∙ ap (λ (t : Table). reaches t a b) (table-heard e (run l cs) (does (Link r s on)))
-    ∙ linked-pairs (run l cs .table) r s a b on
+    ∙ pairs-after (run l cs .table) (nameOf e) r s on a b
 
 pub asking-leaves : (e : Ear) (l : Links) (cs : List Call) (receiver : Module)
     → Says e l cs (beginning (askCommand receiver))
     → obey (value e (receiverCode receiver)) (run l cs) .next .table ≡ run l cs .table
 asking-leaves e l cs r x =
     ap (λ (o : Outcome). o .next .table) (ask-does e l cs r x) ∙ table-heard e (run l cs) (does (Ask r))
+    ∙ table-after (run l cs .table) (nameOf e) (Ask r)

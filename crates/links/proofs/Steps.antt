@@ -1,6 +1,6 @@
 -- What one call does where it is not refused. Assumes nothing.
 use mathlib.Core.Path.{_≡_, refl}
-use mathlib.Core.Bool.{Bool, true, false, cond}
+use mathlib.Core.Bool.{true}
 use Prim.Native.Nat.{ℕ, _<_}
 use native.Mathlib.Omega.{arith}
 use lib.Dec.{ltb}
@@ -9,30 +9,25 @@ use Rattle.laws.proofs.Computed.{chosen}
 use Rattle.wiring.specs.declared.Module.the-variants.{Keyboard}
 use Rattle.wiring.specs.declared.Table.{Table}
 use Rattle.commands.specs.declared.Order.the-variants.{Pass}
-use Rattle.commands.specs.declared.Heard.{Heard}
-use Rattle.commands.specs.Hearing.{heard}
-use Rattle.sending.specs.Sending.{silence, sentFor}
+use Rattle.hearing.specs.declared.Heard.{Heard}
+use Rattle.hearing.specs.Hearing.{heard}
+use Rattle.sending.specs.Sending.{silence, obeyed}
 use Rattle.links.specs.declared.Links.{Links}
+use Rattle.links.specs.declared.Ear.{Ear}
+use Rattle.links.specs.declared.Ear.the-variants.{Modem as modem, Socket as socket}
 use Rattle.links.specs.declared.Answer.the-variants.{Taken}
 use Rattle.links.specs.declared.Outcome.{Outcome}
-use Rattle.links.specs.States.{inRange}
-use Rattle.links.specs.Calls.{taken, withTable, choosing, tableAfter, modemHeard, socketHeard}
-use Rattle.links.specs.Calls.{fromKeyboard, fromModem, fromSocket}
-use Rattle.links.specs.Runs.{Ear, modem, socket, nameOf, other, unfinished, key, fromEar, obey}
-
--- what was heard from an ear
-abbrev pub earHeard : Ear → Links → Heard → Outcome
-earHeard modem l h = modemHeard l h
-earHeard socket l h = socketHeard l h
+use Rattle.links.specs.States.{nameOf, unfinished, inRange}
+use Rattle.links.specs.Calls.{taken, withTable, choosing, taking, fromEar, fromKeyboard}
+use Rattle.links.specs.Runs.{other, key, obey}
 
 pub accepted : (e : Ear) (l : Links) (v : ℕ) → inRange l ≡ true → v < 128
-    → fromEar e l v ≡ earHeard e l (heard (unfinished l e) v)
-unfolding fromModem fromSocket
-accepted modem l v i h = simp (i, le-ltb 127 v (omega (arith, h)))
-accepted socket l v i h = simp (i, le-ltb 127 v (omega (arith, h)))
+    → fromEar l e v ≡ taking l e (heard (unfinished l e) v)
+unfolding fromEar
+accepted e l v i h = simp (i, le-ltb 127 v (omega (arith, h)))
 
 pub key-accepted : (l : Links) (v : ℕ) → inRange l ≡ true → v < 128
-    → fromKeyboard l v ≡ taken l (sentFor (l .table) Keyboard (Pass v))
+    → fromKeyboard l v ≡ taken l (obeyed (l .table) Keyboard (Pass v) .sent)
 unfolding fromKeyboard
 key-accepted l v i h = simp (i, le-ltb 127 v (omega (arith, h)))
 
@@ -42,32 +37,29 @@ table-chosen l t i = simp i
 
 -- ---- the parts of what was heard
 
-pub answer-heard : (e : Ear) (l : Links) (h : Heard) → earHeard e l h .answer ≡ Taken
-unfolding modemHeard socketHeard
-answer-heard modem l h = refl
-answer-heard socket l h = refl
+pub answer-heard : (e : Ear) (l : Links) (h : Heard) → taking l e h .answer ≡ Taken
+unfolding taking
+answer-heard e l h = refl
 
-pub table-heard : (e : Ear) (l : Links) (h : Heard) → earHeard e l h .next .table ≡ tableAfter (l .table) (h .order)
-unfolding modemHeard socketHeard
+pub table-heard : (e : Ear) (l : Links) (h : Heard)
+    → taking l e h .next .table ≡ obeyed (l .table) (nameOf e) (h .order) .table
+unfolding taking
 table-heard modem l h = refl
 table-heard socket l h = refl
 
-pub own-heard : (e : Ear) (l : Links) (h : Heard) → unfinished (earHeard e l h .next) e ≡ h .unfinished
-unfolding modemHeard socketHeard
+pub own-heard : (e : Ear) (l : Links) (h : Heard) → unfinished (taking l e h .next) e ≡ h .unfinished
+unfolding taking
 own-heard modem l h = refl
 own-heard socket l h = refl
 
-pub other-heard : (e : Ear) (l : Links) (h : Heard)
-    → unfinished (earHeard e l h .next) (other e) ≡ unfinished l (other e)
-unfolding modemHeard socketHeard
+pub other-heard : (e : Ear) (l : Links) (h : Heard) → unfinished (taking l e h .next) (other e) ≡ unfinished l (other e)
+unfolding taking
 other-heard modem l h = refl
 other-heard socket l h = refl
 
-pub sent-heard : (e : Ear) (l : Links) (h : Heard)
-    → earHeard e l h .sent ≡ sentFor (tableAfter (l .table) (h .order)) (nameOf e) (h .order)
-unfolding modemHeard socketHeard
-sent-heard modem l h = refl
-sent-heard socket l h = refl
+pub sent-heard : (e : Ear) (l : Links) (h : Heard) → taking l e h .sent ≡ obeyed (l .table) (nameOf e) (h .order) .sent
+unfolding taking
+sent-heard e l h = refl
 
 -- ---- keys
 

@@ -5,21 +5,21 @@ use mathlib.Core.List.{[], _∷_}
 use Prim.Native.Nat.{ℕ}
 use lib.Dec.{ltb}
 use Rattle.numbers.specs.Numbers.{Told}
-use Rattle.wiring.specs.declared.Module.{Module}
-use Rattle.wiring.specs.declared.Module.the-variants.{Keyboard, Modem, Socket}
+use Rattle.wiring.specs.declared.Module.the-variants.{Keyboard}
 use Rattle.wiring.specs.declared.Table.{Table}
-use Rattle.wiring.specs.Tables.{linked, localTable, connectedTable}
-use Rattle.commands.specs.declared.Order.{Order}
-use Rattle.commands.specs.declared.Order.the-variants.{Nothing, Pass, Pair, Link, Ask}
-use Rattle.commands.specs.declared.Heard.{Heard}
-use Rattle.commands.specs.Hearing.{heard}
+use Rattle.wiring.specs.Tables.{localTable, connectedTable}
+use Rattle.commands.specs.declared.Order.the-variants.{Pass}
+use Rattle.hearing.specs.declared.Heard.{Heard}
+use Rattle.hearing.specs.Hearing.{heard}
 use Rattle.sending.specs.declared.Sent.{Sent}
-use Rattle.sending.specs.Sending.{silence, sentFor}
+use Rattle.sending.specs.Sending.{silence, obeyed}
 use Rattle.links.specs.declared.Links.{Links}
+use Rattle.links.specs.declared.Ear.{Ear}
+use Rattle.links.specs.declared.Ear.the-variants.{Modem as modem, Socket as socket}
 use Rattle.links.specs.declared.Answer.{Answer}
 use Rattle.links.specs.declared.Answer.the-variants.{Taken, TooLarge, Broken}
 use Rattle.links.specs.declared.Outcome.{Outcome}
-use Rattle.links.specs.States.{inRange}
+use Rattle.links.specs.States.{nameOf, unfinished, left, inRange}
 
 -- the number of each answer, and what it names: a single value stands at place 0
 abbrev pub told : Answer → Told
@@ -60,32 +60,20 @@ withConnected l = choosing l connectedTable
 
 -- ---- a value is handed in
 
--- only a link command changes the table
-abbrev pub tableAfter : Table → Order → Table
-tableAfter t Nothing = t
-tableAfter t (Pass v) = t
-tableAfter t (Pair v) = t
-tableAfter t (Link receiver sender on) = linked t receiver sender on
-tableAfter t (Ask receiver) = t
+-- what was heard from an ear: its own sequence follows, and its order is obeyed
+unfoldable pub taking : Links → Ear → Heard → Outcome
+taking l e h =
+    let done = obeyed (l .table) (nameOf e) (h .order) in taken (left l e (done .table) (h .unfinished)) (done .sent)
 
--- what was heard from the modem, and from the socket: its own sequence and the table follow, and a reply tells the
--- table after the command
-unfoldable pub modemHeard : Links → Heard → Outcome
-modemHeard l h =
-    let after = tableAfter (l .table) (h .order) in
-    taken (record { table = after; modem = h .unfinished; socket = l .socket }) (sentFor after Modem (h .order))
+unfoldable pub fromEar : Links → Ear → ℕ → Outcome
+fromEar l e v = unlessRefused l v (taking l e (heard (unfinished l e) v))
 
-unfoldable pub socketHeard : Links → Heard → Outcome
-socketHeard l h =
-    let after = tableAfter (l .table) (h .order) in
-    taken (record { table = after; modem = l .modem; socket = h .unfinished }) (sentFor after Socket (h .order))
+abbrev pub fromModem : Links → ℕ → Outcome
+fromModem l v = fromEar l modem v
+
+abbrev pub fromSocket : Links → ℕ → Outcome
+fromSocket l v = fromEar l socket v
 
 -- "Commands are heard from modem and socket only": a key is passed on, whatever it is
 unfoldable pub fromKeyboard : Links → ℕ → Outcome
-fromKeyboard l v = unlessRefused l v (taken l (sentFor (l .table) Keyboard (Pass v)))
-
-unfoldable pub fromModem : Links → ℕ → Outcome
-fromModem l v = unlessRefused l v (modemHeard l (heard (l .modem) v))
-
-unfoldable pub fromSocket : Links → ℕ → Outcome
-fromSocket l v = unlessRefused l v (socketHeard l (heard (l .socket) v))
+fromKeyboard l v = unlessRefused l v (taken l (obeyed (l .table) Keyboard (Pass v) .sent))

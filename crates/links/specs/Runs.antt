@@ -7,28 +7,19 @@ use lib.Dec.{ltb, eqb}
 use Rattle.numbers.specs.Numbers.{Conditions, numberOf, Told}
 use Rattle.values.specs.Large.{Values}
 use Rattle.wiring.specs.declared.Module.{Module}
-use Rattle.wiring.specs.declared.Module.the-variants.{Modem, Socket}
 use Rattle.wiring.specs.Modules.{same}
 use Rattle.wiring.specs.Tables.{reaches, NoneItself}
 use Rattle.replies.specs.Replies.{replyOf}
-use Rattle.commands.specs.declared.Unfinished.{Unfinished}
-use Rattle.commands.specs.declared.Unfinished.the-variants.{Free}
-use Rattle.commands.specs.Hearing.{codesOf}
+use Rattle.hearing.specs.declared.Unfinished.the-variants.{Free}
+use Rattle.hearing.specs.Hearing.{codesOf}
 use Rattle.sending.specs.Sending.{gets}
 use Rattle.links.specs.declared.Links.{Links}
+use Rattle.links.specs.declared.Ear.{Ear}
+use Rattle.links.specs.declared.Ear.the-variants.{Modem as modem, Socket as socket}
 use Rattle.links.specs.declared.Answer.the-variants.{Taken}
 use Rattle.links.specs.declared.Outcome.{Outcome}
-use Rattle.links.specs.States.{inRange}
-use Rattle.links.specs.Calls.{withLocal, withConnected, fromKeyboard, fromModem, fromSocket}
-
--- "Commands are heard from modem and socket only"
-pub data Ear : Type 0 where
-  modem : Ear
-  socket : Ear
-
-abbrev pub nameOf : Ear → Module
-nameOf modem = Modem
-nameOf socket = Socket
+use Rattle.links.specs.States.{nameOf, unfinished, left, inRange}
+use Rattle.links.specs.Calls.{withLocal, withConnected, fromKeyboard, fromEar}
 
 abbrev pub other : Ear → Ear
 other modem = socket
@@ -40,11 +31,6 @@ sameEar modem socket = false
 sameEar socket modem = false
 sameEar socket socket = true
 
--- "each of the two has its own unfinished sequence"
-abbrev pub unfinished : Links → Ear → Unfinished
-unfinished l modem = l .modem
-unfinished l socket = l .socket
-
 -- ---- calls
 
 -- a key; a value from modem or socket; the host's choice of a table
@@ -54,13 +40,9 @@ pub data Call : Type 0 where
   toLocal : Call
   toConnected : Call
 
-abbrev pub fromEar : Ear → Links → ℕ → Outcome
-fromEar modem l v = fromModem l v
-fromEar socket l v = fromSocket l v
-
 abbrev pub obey : Call → Links → Outcome
 obey (key v) l = fromKeyboard l v
-obey (value e v) l = fromEar e l v
+obey (value e v) l = fromEar l e v
 obey toLocal l = withLocal l
 obey toConnected l = withConnected l
 
@@ -135,8 +117,7 @@ pub record PassedOn (l : Links) (c : Call) (sender : Module) (vs : List ℕ) (ne
 
 -- nothing unfinished from an ear
 abbrev pub freed : Links → Ear → Links
-freed l modem = record { table = l .table; modem = Free; socket = l .socket }
-freed l socket = record { table = l .table; modem = l .modem; socket = Free }
+freed l e = left l e (l .table) Free
 
 -- a value of an ear is taken out of the flow: nobody gets anything, and the table and what is unfinished from the other
 -- ear are as they were

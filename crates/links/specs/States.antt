@@ -1,10 +1,15 @@
 -- The state of the links (01, "Links and commands"). Assumes nothing.
 use mathlib.Core.Bool.{Bool, _&&_, not}
+use Rattle.wiring.specs.declared.Module.{Module}
+use Rattle.wiring.specs.declared.Module.the-variants.{Modem, Socket}
 use Rattle.wiring.specs.declared.Table.{Table}
 use Rattle.wiring.specs.Tables.{selfLinked, localTable, connectedTable}
-use Rattle.commands.specs.declared.Unfinished.the-variants.{Free}
-use Rattle.commands.specs.Hearing.{inRange as sequenceInRange}
+use Rattle.hearing.specs.declared.Unfinished.{Unfinished}
+use Rattle.hearing.specs.declared.Unfinished.the-variants.{Free}
+use Rattle.hearing.specs.Hearing.{inRange as sequenceInRange}
 use Rattle.links.specs.declared.Links.{Links}
+use Rattle.links.specs.declared.Ear.{Ear}
+use Rattle.links.specs.declared.Ear.the-variants.{Modem as modem, Socket as socket}
 
 -- a table, and nothing unfinished
 abbrev pub starting : Table → Links
@@ -15,6 +20,21 @@ localLinks = starting localTable
 
 abbrev pub connectedLinks : Links
 connectedLinks = starting connectedTable
+
+-- "Commands are heard from modem and socket only"
+abbrev pub nameOf : Ear → Module
+nameOf modem = Modem
+nameOf socket = Socket
+
+-- "each of the two has its own unfinished sequence"
+abbrev pub unfinished : Links → Ear → Unfinished
+unfinished l modem = l .modem
+unfinished l socket = l .socket
+
+-- with this table, and this unfinished from an ear
+abbrev pub left : Links → Ear → Table → Unfinished → Links
+left l modem t u = record { table = t; modem = u; socket = l .socket }
+left l socket t u = record { table = t; modem = l .modem; socket = u }
 
 -- "each of the two has its own unfinished sequence: in range it is ..", each code at most 127; and "A module is never
 -- linked to itself"

@@ -2,26 +2,35 @@
 //
 // Keyboard, modem and socket hand in one value at a time, and the host chooses a table; every call takes any state and
 // any value, and hands back the next state, the answer, and what each of the four receivers gets. A broken state, or a
-// value above 127, is refused and changes nothing. `wiring` has the table, `commands` what a value from modem or socket
-// means, `sending` what goes out. specs/States says what a state is, specs/Calls what each call does, specs/Runs what a
+// value above 127, is refused and changes nothing. `wiring` has the table, `hearing` what a value from modem or socket
+// means, `sending` what that does. specs/States says what a state is, specs/Calls what each call does, specs/Runs what a
 // whole run is; proofs/ holds their laws.
 ghost use mathlib.Core.Path.{_≡_};
 ghost use Rattle.sending.specs.Sending.{silence};
 ghost use Rattle.links.specs.States.{localLinks, connectedLinks, inRange};
 ghost use Rattle.links.specs.Calls.{giving, choosing, withLocal, withConnected};
-ghost use Rattle.links.specs.Calls.{tableAfter, modemHeard, socketHeard, fromKeyboard, fromModem, fromSocket};
-use commands::Heard;
+ghost use Rattle.links.specs.Calls.{taking, fromEar, fromKeyboard, fromModem, fromSocket};
+
+mod ears;
+
 use commands::Order;
-use commands::Unfinished;
+use hearing::Heard;
+use hearing::Unfinished;
 use sending::Sent;
 use wiring::Module;
 use wiring::Table;
 
 pub struct Links {
     pub table: Table,
-    // What is unfinished from each of the two modules that are heard for commands.
+    // What is unfinished from each ear.
     pub modem: Unfinished,
     pub socket: Unfinished,
+}
+
+// The two modules that are heard for commands.
+pub enum Ear {
+    Modem,
+    Socket,
 }
 
 // What a call answers: the paper's 0, 2 and 5.
@@ -35,23 +44,6 @@ pub struct Outcome {
     pub next: Links,
     pub answer: Answer,
     pub sent: Sent,
-}
-
-// The table after an order.
-fn relink(table: Table, order: Order) -> Table
-    ensures { λ r. ⌜ r ≡ tableAfter table order ⌝ }
-{
-    match order {
-        Order::Nothing => table,
-        Order::Pass(_) => table,
-        Order::Pair(_) => table,
-        Order::Link {
-            receiver,
-            sender,
-            on,
-        } => table.linked(receiver, sender, on),
-        Order::Ask(_) => table,
-    }
 }
 
 // Nothing is sent.
@@ -96,8 +88,8 @@ impl Links {
         }
         let modem = self.modem;
         let socket = self.socket;
-        if commands::in_range(modem) {
-            return commands::in_range(socket);
+        if hearing::in_range(modem) {
+            return hearing::in_range(socket);
         }
         false
     }
@@ -140,7 +132,8 @@ impl Links {
             if 127 < value {
                 return silent(self, Answer::TooLarge);
             }
-            let sent = sending::send(self.table, Module::Keyboard, Order::Pass(value));
+            let done = sending::obey(self.table, Module::Keyboard, Order::Pass(value));
+            let sent = done.sent;
             return Outcome {
                 next: self,
                 answer: Answer::Taken,
@@ -150,73 +143,44 @@ impl Links {
         silent(self, Answer::Broken)
     }
 
-    fn hear_modem(self, heard: Heard) -> Outcome
-        ensures { λ r. ⌜ r ≡ modemHeard self heard ⌝ }
+    // What was heard from an ear: its own sequence follows, and its order is obeyed.
+    fn take(self, ear: Ear, heard: Heard) -> Outcome
+        ensures { λ r. ⌜ r ≡ taking self ear heard ⌝ }
     {
-        let before = self.table;
         let order = heard.order;
-        let after = relink(before, order);
-        let sent = sending::send(after, Module::Modem, order);
         let unfinished = heard.unfinished;
-        let socket = self.socket;
-        let next = Links {
-            table: after,
-            modem: unfinished,
-            socket,
-        };
+        let done = sending::obey(self.table, ear.name(), order);
+        let sent = done.sent;
         Outcome {
-            next,
+            next: self.left(ear, done.table, unfinished),
             answer: Answer::Taken,
             sent,
         }
     }
 
-    fn hear_socket(self, heard: Heard) -> Outcome
-        ensures { λ r. ⌜ r ≡ socketHeard self heard ⌝ }
+    fn hear(self, ear: Ear, value: u8) -> Outcome
+        ensures { λ r. ⌜ r ≡ fromEar self ear value ⌝ }
     {
-        let before = self.table;
-        let order = heard.order;
-        let after = relink(before, order);
-        let sent = sending::send(after, Module::Socket, order);
-        let unfinished = heard.unfinished;
-        let modem = self.modem;
-        let next = Links {
-            table: after,
-            modem,
-            socket: unfinished,
-        };
-        Outcome {
-            next,
-            answer: Answer::Taken,
-            sent,
+        if self.in_range() {
+            if 127 < value {
+                return silent(self, Answer::TooLarge);
+            }
+            return self.take(ear, hearing::hear(self.unfinished(ear), value));
         }
+        silent(self, Answer::Broken)
     }
 
     // A value that the receiver passes on from the line.
     pub fn from_modem(self, value: u8) -> Outcome
         ensures { λ r. ⌜ r ≡ fromModem self value ⌝ }
     {
-        if self.in_range() {
-            if 127 < value {
-                return silent(self, Answer::TooLarge);
-            }
-            let unfinished = self.modem;
-            return self.hear_modem(commands::hear(unfinished, value));
-        }
-        silent(self, Answer::Broken)
+        self.hear(Ear::Modem, value)
     }
 
     // A value from the socket.
     pub fn from_socket(self, value: u8) -> Outcome
         ensures { λ r. ⌜ r ≡ fromSocket self value ⌝ }
     {
-        if self.in_range() {
-            if 127 < value {
-                return silent(self, Answer::TooLarge);
-            }
-            let unfinished = self.socket;
-            return self.hear_socket(commands::hear(unfinished, value));
-        }
-        silent(self, Answer::Broken)
+        self.hear(Ear::Socket, value)
     }
 }

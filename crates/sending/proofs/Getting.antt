@@ -1,6 +1,6 @@
--- What each receiver gets of what is sent, and how much. Assumes nothing.
+-- What each receiver gets of an order, and how much; and what the order does to the table. Assumes nothing.
 use mathlib.Core.Path.{_≡_, refl, ap, _∙_, subst⁻¹}
-use mathlib.Core.Bool.{Bool, true, false, cond}
+use mathlib.Core.Bool.{Bool, true, false, cond, _&&_, not}
 use mathlib.Core.List.{List, [], _∷_}
 use Prim.Native.Nat.{ℕ, _≤_}
 use native.Mathlib.Omega.{arith}
@@ -14,14 +14,17 @@ use Rattle.wiring.specs.declared.Module.the-variants.{Screen, Keyboard, Modem, 
 use Rattle.wiring.specs.declared.Row.{Row}
 use Rattle.wiring.specs.declared.Table.{Table}
 use Rattle.wiring.specs.Modules.{same}
-use Rattle.wiring.specs.Tables.{marked, reaches}
+use Rattle.wiring.specs.Tables.{marked, reaches, linked, NoneItself}
+use Rattle.wiring.proofs.Pairs.{linked-pairs}
+use Rattle.wiring.proofs.Selves.{self-kept}
 use Rattle.replies.specs.Replies.{replyOf}
 use Rattle.replies.proofs.Statuses.{reply-length, reply-small}
 use Rattle.commands.specs.declared.Order.{Order}
 use Rattle.commands.specs.declared.Order.the-variants.{Nothing, Pass, Pair, Link, Ask}
-use Rattle.commands.specs.Hearing.{SmallOrder}
+use Rattle.commands.specs.Commands.{SmallOrder}
 use Rattle.sending.specs.declared.Bytes.{Bytes}
 use Rattle.sending.specs.Sending.{packed, bytesOf, to, nowhere, silence, onlyTo, receiversFor, bytesFor, sentFor}
+use Rattle.sending.specs.Sending.{tableAfter, obeyed}
 use Rattle.sending.specs.Sending.{partOf, gets, FewIn}
 
 -- ---- who gets it
@@ -40,9 +43,8 @@ given true vs = unpacked vs
 given false vs = refl
 
 -- the receivers that are meant get the bytes, and the others nothing
-pub gets-sent : (t : Table) (from : Module) (o : Order) (r : Module)
+gets-sent : (t : Table) (from : Module) (o : Order) (r : Module)
     → gets (sentFor t from o) r ≡ cond (marked (receiversFor t from o) r) (bytesFor t o) []
-unfolding sentFor
 gets-sent t from o r =
     ap bytesOf (part-of (receiversFor t from o) (packed (bytesFor t o)) r)
     ∙ given (marked (receiversFor t from o) r) (bytesFor t o)
@@ -73,28 +75,56 @@ only-marked Socket Socket = refl
 
 -- what is passed on goes by the links
 pub pass-goes : (t : Table) (from : Module) (v : ℕ) (r : Module)
-    → gets (sentFor t from (Pass v)) r ≡ cond (reaches t from r) (v ∷ []) []
+    → gets (obeyed t from (Pass v) .sent) r ≡ cond (reaches t from r) (v ∷ []) []
+unfolding obeyed
 pass-goes t from v r = gets-sent t from (Pass v) r
 
 pub pair-goes : (t : Table) (from : Module) (v : ℕ) (r : Module)
-    → gets (sentFor t from (Pair v)) r ≡ cond (reaches t from r) (27 ∷ v ∷ []) []
+    → gets (obeyed t from (Pair v) .sent) r ≡ cond (reaches t from r) (27 ∷ v ∷ []) []
+unfolding obeyed
 pair-goes t from v r = gets-sent t from (Pair v) r
 
--- a reply goes to the sender alone, whatever its links
+-- a reply goes to the sender alone, whatever its links, and tells the table after the command
 pub link-replied : (t : Table) (from receiver sender : Module) (on : Bool) (r : Module)
-    → gets (sentFor t from (Link receiver sender on)) r ≡ cond (same r from) (replyOf t receiver) []
+    → let done = obeyed t from (Link receiver sender on) in
+    gets (done .sent) r ≡ cond (same r from) (replyOf (done .table) receiver) []
+unfolding obeyed
 link-replied t from receiver sender on r =
-    gets-sent t from (Link receiver sender on) r
-    ∙ ap (λ (b : Bool). cond b (replyOf t receiver) []) (only-marked from r)
+    let after = linked t receiver sender on in
+    gets-sent after from (Link receiver sender on) r
+    ∙ ap (λ (b : Bool). cond b (replyOf after receiver) []) (only-marked from r)
 
 pub ask-replied : (t : Table) (from receiver r : Module)
-    → gets (sentFor t from (Ask receiver)) r ≡ cond (same r from) (replyOf t receiver) []
+    → let done = obeyed t from (Ask receiver) in
+    gets (done .sent) r ≡ cond (same r from) (replyOf (done .table) receiver) []
+unfolding obeyed
 ask-replied t from receiver r =
     gets-sent t from (Ask receiver) r ∙ ap (λ (b : Bool). cond b (replyOf t receiver) []) (only-marked from r)
 
-pub nothing-sent : (t : Table) (from r : Module) → gets (sentFor t from Nothing) r ≡ []
-unfolding sentFor
+pub nothing-sent : (t : Table) (from r : Module) → gets (obeyed t from Nothing .sent) r ≡ []
+unfolding obeyed
 nothing-sent t from r = gets-nothing r
+
+-- ---- the table after it
+
+pub table-after : (t : Table) (from : Module) (o : Order) → obeyed t from o .table ≡ tableAfter t o
+unfolding obeyed
+table-after t from o = refl
+
+-- a link command sets or clears the pair that it names, where it names two modules, and leaves every other
+pub pairs-after : (t : Table) (from receiver sender : Module) (on : Bool) (a b : Module)
+    → reaches (obeyed t from (Link receiver sender on) .table) a b
+    ≡ cond (not (same receiver sender) && (same a sender && same b receiver)) on (reaches t a b)
+unfolding obeyed
+pairs-after t from receiver sender on a b = linked-pairs t receiver sender a b on
+
+pub none-itself-after : (t : Table) (from : Module) (o : Order) → NoneItself t → NoneItself (obeyed t from o .table)
+unfolding obeyed
+none-itself-after t from Nothing n = n
+none-itself-after t from (Pass v) n = n
+none-itself-after t from (Pair v) n = n
+none-itself-after t from (Link receiver sender on) n = λ m. self-kept t receiver sender m on ∙ n m
+none-itself-after t from (Ask receiver) n = n
 
 -- ---- how much
 
@@ -122,11 +152,13 @@ few-none : FewIn (packed [])
 unfolding Few
 few-none = few-packed [] (omega arith, values-none)
 
-pub few-sent : (t : Table) (from : Module) (o : Order) → SmallOrder o → (r : Module) → FewIn (partOf (sentFor t from o) r)
-unfolding sentFor
+pub few-sent : (t : Table) (from : Module) (o : Order) → SmallOrder o
+    → (r : Module) → FewIn (partOf (obeyed t from o .sent) r)
+unfolding obeyed
 few-sent t from o s r =
-    subst⁻¹ FewIn (part-of (receiversFor t from o) (packed (bytesFor t o)) r)
-    (chosen FewIn (marked (receiversFor t from o) r) (λ e. few-packed (bytesFor t o) (few-bytes t o s)) (λ e. few-none))
+    let after = tableAfter t o in
+    subst⁻¹ FewIn (part-of (receiversFor after from o) (packed (bytesFor after o)) r)
+    (chosen FewIn (marked (receiversFor after from o) r) (λ e. few-packed (bytesFor after o) (few-bytes after o s)) (λ e. few-none))
 
 pub few-silence : (r : Module) → FewIn (partOf silence r)
 few-silence r = subst⁻¹ FewIn (part-of nowhere (packed []) r) (chosen FewIn (marked nowhere r) (λ e. few-none) (λ e. few-none))

@@ -1,4 +1,4 @@
--- What one value sends, and to whom (01, "Links and commands"). Assumes nothing.
+-- What an order does to the table, what it sends, and to whom (01, "Links and commands"). Assumes nothing.
 use mathlib.Core.Path.{_≡_}
 use mathlib.Core.Bool.{Bool, true, false, cond}
 use mathlib.Core.List.{List, [], _∷_, _++_}
@@ -9,12 +9,13 @@ use Rattle.wiring.specs.declared.Module.{Module}
 use Rattle.wiring.specs.declared.Module.the-variants.{Screen, Keyboard, Modem, Socket}
 use Rattle.wiring.specs.declared.Row.{Row}
 use Rattle.wiring.specs.declared.Table.{Table}
-use Rattle.wiring.specs.Tables.{row, rowOf}
+use Rattle.wiring.specs.Tables.{row, rowOf, linked}
 use Rattle.replies.specs.Replies.{replyOf}
 use Rattle.commands.specs.declared.Order.{Order}
 use Rattle.commands.specs.declared.Order.the-variants.{Nothing, Pass, Pair, Link, Ask}
 use Rattle.sending.specs.declared.Bytes.{Bytes}
 use Rattle.sending.specs.declared.Sent.{Sent}
+use Rattle.sending.specs.declared.Obeyed.{Obeyed}
 
 -- five places, and how many of them count; those past them are 0
 abbrev pub packed : List ℕ → Bytes
@@ -63,9 +64,20 @@ bytesFor t (Pair v) = 27 ∷ v ∷ []
 bytesFor t (Link receiver sender on) = replyOf t receiver
 bytesFor t (Ask receiver) = replyOf t receiver
 
--- the table is the one after the order
-unfoldable pub sentFor : Table → Module → Order → Sent
+abbrev pub sentFor : Table → Module → Order → Sent
 sentFor t from o = to (receiversFor t from o) (packed (bytesFor t o))
+
+-- only a link command changes the table
+abbrev pub tableAfter : Table → Order → Table
+tableAfter t Nothing = t
+tableAfter t (Pass v) = t
+tableAfter t (Pair v) = t
+tableAfter t (Link receiver sender on) = linked t receiver sender on
+tableAfter t (Ask receiver) = t
+
+-- what is sent goes by the table after the order, and tells it
+unfoldable pub obeyed : Table → Module → Order → Obeyed
+obeyed t from o = record { table = tableAfter t o; sent = sentFor (tableAfter t o) from o }
 
 -- what a receiver gets
 abbrev pub partOf : Sent → Module → Bytes

@@ -1,13 +1,13 @@
-// What one value sends, and to whom (01, "Links and commands"): a value or an ESC pair along the links of its sender, or
-// a reply to the sender alone.
+// What an order does (01, "Links and commands"): a value or an ESC pair goes along the links of its sender; a command sets
+// or clears a link, and a reply goes to the sender alone.
 //
-// specs/Sending says both; proofs/ shows what each receiver gets of it.
+// specs/Sending says so; proofs/ shows what each receiver gets of it.
 ghost use mathlib.Core.Path.{_≡_};
 ghost use mathlib.Core.Bool.{cond};
 ghost use mathlib.Core.List.{[]};
 ghost use Rattle.replies.specs.Replies.{replyOf};
 ghost use Rattle.sending.specs.Sending.{packed, to as toThose, nowhere as nowhereMarked, silence as silenceSent};
-ghost use Rattle.sending.specs.Sending.{onlyTo, receiversFor, bytesFor, sentFor};
+ghost use Rattle.sending.specs.Sending.{onlyTo, receiversFor, bytesFor, sentFor, tableAfter, obeyed};
 use commands::Order;
 use wiring::Module;
 use wiring::Row;
@@ -25,6 +25,12 @@ pub struct Sent {
     pub keyboard: Bytes,
     pub modem: Bytes,
     pub socket: Bytes,
+}
+
+// What an order does: the table after it, and what each receiver gets.
+pub struct Obeyed {
+    pub table: Table,
+    pub sent: Sent,
 }
 
 fn none() -> Bytes
@@ -140,10 +146,36 @@ pub fn silence() -> Sent
     to(nowhere(), none())
 }
 
-// What an order sends to each receiver, by the table after it.
-pub fn send(table: Table, from: Module, order: Order) -> Sent
+// What an order sends to each receiver.
+fn send(table: Table, from: Module, order: Order) -> Sent
     ensures { λ r. ⌜ r ≡ sentFor table from order ⌝ }
 {
     let bytes = codes(table, order);
     to(receivers(table, from, order), bytes)
+}
+
+// The table after an order.
+fn relink(table: Table, order: Order) -> Table
+    ensures { λ r. ⌜ r ≡ tableAfter table order ⌝ }
+{
+    match order {
+        Order::Nothing => table,
+        Order::Pass(_) => table,
+        Order::Pair(_) => table,
+        Order::Link {
+            receiver,
+            sender,
+            on,
+        } => table.linked(receiver, sender, on),
+        Order::Ask(_) => table,
+    }
+}
+
+// An order from a module: a reply tells the table after it.
+pub fn obey(table: Table, from: Module, order: Order) -> Obeyed
+    ensures { λ r. ⌜ r ≡ obeyed table from order ⌝ }
+{
+    let after = relink(table, order);
+    let sent = send(after, from, order);
+    Obeyed { table: after, sent }
 }
