@@ -7,7 +7,7 @@ ghost use mathlib.Core.Bool.{cond};
 ghost use mathlib.Core.List.{[]};
 ghost use Rattle.replies.specs.Replies.{replyOf};
 ghost use Rattle.sending.specs.Sending.{packed, to as toThose, nowhere as nowhereMarked, silence as silenceSent};
-ghost use Rattle.sending.specs.Sending.{onlyTo, receiversFor, bytesFor, sentFor, tableAfter, obeyed};
+ghost use Rattle.sending.specs.Sending.{onlyTo, receiversFor, bytesFor, tableAfter, obeyed};
 use commands::Order;
 use wiring::Module;
 use wiring::Row;
@@ -146,14 +146,6 @@ pub fn silence() -> Sent
     to(nowhere(), none())
 }
 
-// What an order sends to each receiver.
-fn send(table: Table, from: Module, order: Order) -> Sent
-    ensures { λ r. ⌜ r ≡ sentFor table from order ⌝ }
-{
-    let bytes = codes(table, order);
-    to(receivers(table, from, order), bytes)
-}
-
 // The table after an order.
 fn relink(table: Table, order: Order) -> Table
     ensures { λ r. ⌜ r ≡ tableAfter table order ⌝ }
@@ -176,6 +168,7 @@ pub fn obey(table: Table, from: Module, order: Order) -> Obeyed
     ensures { λ r. ⌜ r ≡ obeyed table from order ⌝ }
 {
     let after = relink(table, order);
-    let sent = send(after, from, order);
+    let bytes = codes(after, order);
+    let sent = to(receivers(after, from, order), bytes);
     Obeyed { table: after, sent }
 }

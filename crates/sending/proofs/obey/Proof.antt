@@ -3,18 +3,27 @@ use borrow.Author.Needs.{needs}
 use Rattle.sending.proofs.obey.Statement.{statement}
 use Rattle.sending.proofs.obey.Tie as tie
 
--- src/lib.rt:178:9
+-- src/lib.rt:170:9
 relink-requires : tie.Need-relink-requires
 relink-requires c κs = search needs
 
--- src/lib.rt:179:9
-send-requires : tie.Need-send-requires
-send-requires c κs = search needs
+-- src/lib.rt:171:9
+codes-requires : tie.Need-codes-requires
+codes-requires c κs = search needs
 
--- src/lib.rt:175:1
+-- src/lib.rt:172:19
+receivers-requires : tie.Need-receivers-requires
+receivers-requires c κs = search needs
+
+-- src/lib.rt:172:9
+to-requires : tie.Need-to-requires
+to-requires c κs = search needs
+
+-- src/lib.rt:167:1
 returns : tie.Need-returns
 unfolding obeyed
-returns c = simp (c .send .ensures, c .before .relink .ensures)
+returns c = simp (c .to .ensures, c .before .receivers .ensures, c .before .before .codes .ensures, c .before .before .before .relink .ensures)
 
 pub obey-spec : {M : Type 1} → statement M
-obey-spec = tie.close (tie.spec relink-requires send-requires returns)
+obey-spec =
+    tie.close (tie.spec relink-requires codes-requires receivers-requires to-requires returns)
