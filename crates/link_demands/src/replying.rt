@@ -6,6 +6,7 @@ ghost use mathlib.Core.List.{List};
 ghost use Prim.Native.Nat.{ℕ, _+_, _/_, _%_, _<_};
 ghost use lib.ListN.{length, getD, take};
 ghost use Rattle.wiring.specs.declared.Module.{Module};
+ghost use Rattle.wiring.specs.declared.Module.the-variants.{Modem, Socket};
 ghost use Rattle.wiring.specs.declared.Table.{Table};
 ghost use Rattle.wiring.specs.Modules.{same, receiverCode, senderCode};
 ghost use Rattle.wiring.specs.Tables.{reaches};
@@ -17,7 +18,8 @@ ghost use Rattle.commands.specs.Commands.{SpelledFor};
 ghost use Rattle.hearing.specs.Hearing.{codesOf};
 ghost use Rattle.links.specs.declared.Links.{Links};
 ghost use Rattle.links.specs.declared.Ear.{Ear};
-ghost use Rattle.links.specs.States.{unfinished};
+ghost use Rattle.links.specs.declared.Ear.the-variants.{Modem as EarModem, Socket as EarSocket};
+ghost use Rattle.links.specs.States.{nameOf, unfinished};
 ghost use Rattle.links.specs.Runs.{Call, value, obey, run, Says, Swallowed, Answered};
 
 // PRO3 with 6/1 or 6/0, a receiver and a sender orders that link set or cleared, PRO2 with 6/2 and a receiver asks for
@@ -50,6 +52,7 @@ pub fn commands_are_taken_out_of_the_flow()
 // The last code of a link or ask command sends the reply to the module that sent the command, whatever its links, and
 // nothing to any other.
 pub fn a_reply_goes_to_the_sender_alone()
+    ensures names { λ _. ⌜ (nameOf EarModem ≡ Modem) × (nameOf EarSocket ≡ Socket) ⌝ }
     ensures link { λ _. ⌜ ((e : Ear) (l : Links) (cs : List Call) (receiver sender : Module) (on : Bool)
         → Says e l cs (beginning (linkCommand receiver sender on))
         → Answered (run l cs) e (senderCode sender) receiver) ⌝ }

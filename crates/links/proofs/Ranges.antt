@@ -9,7 +9,6 @@ use borrow.Author.Tests.{ltb-false}
 use Rattle.laws.proofs.Computed.{chosen, and-left, and-right, holds, is-true, both}
 use Rattle.values.specs.Large.{Values}
 use Rattle.values.proofs.Found.{values-none}
-use Rattle.wiring.specs.declared.Module.the-variants.{Modem, Socket}
 use Rattle.wiring.specs.declared.Table.{Table}
 use Rattle.wiring.specs.Tables.{localTable, connectedTable, selfLinked, NoneItself}
 use Rattle.wiring.proofs.Selves.{tested as selves-tested, passed as selves-passed}
@@ -23,7 +22,7 @@ use Rattle.links.specs.declared.Links.{Links}
 use Rattle.links.specs.declared.Ear.{Ear}
 use Rattle.links.specs.declared.Ear.the-variants.{Modem as modem, Socket as socket}
 use Rattle.links.specs.declared.Outcome.{Outcome}
-use Rattle.links.specs.States.{unfinished, starting, localLinks, connectedLinks, inRange}
+use Rattle.links.specs.States.{nameOf, unfinished, starting, localLinks, connectedLinks, inRange}
 use Rattle.links.specs.Calls.{withTable, choosing, taking, fromEar}
 use Rattle.links.specs.Runs.{Call, key, value, toLocal, toConnected, obey, run, InRange}
 use Rattle.links.proofs.Steps.{keys-change-nothing}
@@ -75,13 +74,13 @@ codes-still u v s h = codes-tested (heard u v .unfinished) (codes-kept u v (code
 heard-kept : (l : Links) (e : Ear) (v : ℕ) → InRange l → v ≤ 127 → InRange (taking l e (heard (unfinished l e) v) .next)
 unfolding taking
 heard-kept l modem v r h =
-    record { none-itself = none-itself-after (l .table) Modem (heard (l .modem) v .order) (r .none-itself); small = small }
+    record { none-itself = none-itself-after (l .table) (nameOf modem) (heard (l .modem) v .order) (r .none-itself); small = small }
   where
     small : (e : Ear) → Values (codesOf (unfinished (taking l modem (heard (l .modem) v) .next) e))
     small modem = codes-still (l .modem) v (r .small modem) h
     small socket = r .small socket
 heard-kept l socket v r h =
-    record { none-itself = none-itself-after (l .table) Socket (heard (l .socket) v .order) (r .none-itself); small = small }
+    record { none-itself = none-itself-after (l .table) (nameOf socket) (heard (l .socket) v .order) (r .none-itself); small = small }
   where
     small : (e : Ear) → Values (codesOf (unfinished (taking l socket (heard (l .socket) v) .next) e))
     small modem = r .small modem

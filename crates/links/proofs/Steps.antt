@@ -6,7 +6,7 @@ use native.Mathlib.Omega.{arith}
 use lib.Dec.{ltb}
 use borrow.Author.Tests.{le-ltb}
 use Rattle.laws.proofs.Computed.{chosen}
-use Rattle.wiring.specs.declared.Module.the-variants.{Keyboard}
+use Rattle.wiring.specs.declared.Module.the-variants.{Keyboard, Modem, Socket}
 use Rattle.wiring.specs.declared.Table.{Table}
 use Rattle.commands.specs.declared.Order.the-variants.{Pass}
 use Rattle.hearing.specs.declared.Heard.{Heard}
@@ -60,6 +60,10 @@ other-heard socket l h = refl
 pub sent-heard : (e : Ear) (l : Links) (h : Heard) → taking l e h .sent ≡ obeyed (l .table) (nameOf e) (h .order) .sent
 unfolding taking
 sent-heard e l h = refl
+
+-- each ear is the module of its name
+pub names : (nameOf modem ≡ Modem) × (nameOf socket ≡ Socket)
+names = (refl, refl)
 
 -- ---- keys
 

@@ -1,10 +1,11 @@
 -- The theorem is proved where its words are. Assumes nothing.
+use Rattle.links.proofs.Steps.{names}
 use Rattle.links.proofs.Replying.{link-answered, ask-answered}
 use Rattle.link_demands.proofs.replying.a_reply_goes_to_the_sender_alone.Statement.{statement}
 use Rattle.link_demands.proofs.replying.a_reply_goes_to_the_sender_alone.Tie as tie
 
 returns : tie.Need-returns
-returns c = (link-answered, ask-answered)
+returns c = (names, (link-answered, ask-answered))
 
 pub a-reply-goes-to-the-sender-alone-spec : {M : Type 1} → statement M
 a-reply-goes-to-the-sender-alone-spec = tie.close (tie.spec returns)
