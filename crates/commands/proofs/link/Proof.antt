@@ -1,32 +1,26 @@
+-- `commands::link` meets its contract. Assumes nothing.
 use borrow.Author.Needs.{needs}
 use Rattle.commands.proofs.link.Statement.{statement}
 use Rattle.commands.proofs.link.Tie as tie
 
--- src/naming.rt:53:19
 enum-known-receiver : tie.Need-enum-known-receiver
 enum-known-receiver c = search needs
 
--- src/naming.rt:54:23
 enum-known-sender : tie.Need-enum-known-sender
 enum-known-sender c = search needs
 
--- src/naming.rt:59:30
 enum-told : tie.Need-enum-told
 enum-told c = search needs
 
--- src/naming.rt:61:26
 enum-told-2 : tie.Need-enum-told-2
 enum-told-2 c = search needs
 
--- src/naming.rt:49:1
 returns : tie.Need-returns
 returns c = simp (c .before .sender .given .1, c .before .before .before .before .receiver .given .1)
 
--- src/naming.rt:49:1
 returns-2 : tie.Need-returns-2
 returns-2 c = search needs
 
--- src/naming.rt:49:1
 returns-3 : tie.Need-returns-3
 returns-3 c = search needs
 

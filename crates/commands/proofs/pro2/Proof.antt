@@ -1,21 +1,18 @@
+-- `commands::pro2` meets its contract. Assumes nothing.
 use borrow.Author.Tests.{eq-eqb, ne-eqb}
 use borrow.Author.Needs.{needs}
 use Rattle.commands.proofs.pro2.Statement.{statement}
 use Rattle.commands.proofs.pro2.Tie as tie
 
--- src/naming.rt:70:20
 receiver-requires : tie.Need-receiver-requires
 receiver-requires c κs = search needs
 
--- src/naming.rt:70:9
 ask-requires : tie.Need-ask-requires
 ask-requires c κs = search needs
 
--- src/naming.rt:70:9
 returns : tie.Need-returns
 returns c = simp (c .ask .ensures, c .before .receiver .ensures, eq-eqb _ _ (c .before .before .if1 .taken))
 
--- src/naming.rt:66:1
 returns-2 : tie.Need-returns-2
 returns-2 c = simp (ne-eqb _ _ (c .if1 .left))
 

@@ -1,26 +1,28 @@
+-- `commands::receiver` meets its contract. Assumes nothing.
 use borrow.Author.Tests.{ne-eqb}
 use Rattle.commands.proofs.receiver.Statement.{statement}
 use Rattle.commands.proofs.receiver.Tie as tie
 
--- src/naming.rt:15:1
 returns : tie.Need-returns
 returns c = simp (c .match .keys1)
 
--- src/naming.rt:15:1
 returns-2 : tie.Need-returns-2
 returns-2 c = simp (c .match .keys2)
 
--- src/naming.rt:15:1
 returns-3 : tie.Need-returns-3
 returns-3 c = simp (c .match .keys3)
 
--- src/naming.rt:15:1
 returns-4 : tie.Need-returns-4
 returns-4 c = simp (c .match .keys4)
 
--- src/naming.rt:15:1
 returns-5 : tie.Need-returns-5
-returns-5 c = simp (ne-eqb _ _ (c .match .rest .1), ne-eqb _ _ (c .match .rest .0 .1), ne-eqb _ _ (c .match .rest .0 .0 .1), ne-eqb _ _ (c .match .rest .0 .0 .0 .1))
+returns-5 c =
+    simp (
+      ne-eqb _ _ (c .match .rest .1),
+      ne-eqb _ _ (c .match .rest .0 .1),
+      ne-eqb _ _ (c .match .rest .0 .0 .1),
+      ne-eqb _ _ (c .match .rest .0 .0 .0 .1),
+    )
 
 pub receiver-spec : {M : Type 1} → statement M
 receiver-spec = tie.close (tie.spec returns returns-2 returns-3 returns-4 returns-5)

@@ -1,21 +1,18 @@
+-- `hearing::begin` meets its contract. Assumes nothing.
 use borrow.Author.Tests.{eq-eqb, ne-eqb}
 use borrow.Author.Needs.{needs}
 use Rattle.hearing.proofs.begin.Statement.{statement}
 use Rattle.hearing.proofs.begin.Tie as tie
 
--- src/lib.rt:93:9
 hold-requires : tie.Need-hold-requires
 hold-requires c κs = search needs
 
--- src/lib.rt:93:9
 returns : tie.Need-returns
 returns c = simp (c .hold .ensures, eq-eqb _ _ (c .before .if1 .taken))
 
--- src/lib.rt:95:5
 finish-requires : tie.Need-finish-requires
 finish-requires c κs = search needs
 
--- src/lib.rt:89:1
 returns-2 : tie.Need-returns-2
 returns-2 c = simp (c .finish .ensures, ne-eqb _ _ (c .before .if1 .left))
 

@@ -1,39 +1,38 @@
+-- `hearing::escape` meets its contract. Assumes nothing.
 use borrow.Author.Tests.{ne-eqb}
 use borrow.Author.Needs.{needs}
 use Rattle.hearing.proofs.escape.Statement.{statement}
 use Rattle.hearing.proofs.escape.Tie as tie
 
--- src/lib.rt:103:15
 hold-requires : tie.Need-hold-requires
 hold-requires c κs = search needs
 
--- src/lib.rt:104:15
 hold-requires-2 : tie.Need-hold-requires-2
 hold-requires-2 c κs = search needs
 
--- src/lib.rt:105:15
 hold-requires-3 : tie.Need-hold-requires-3
 hold-requires-3 c κs = search needs
 
--- src/lib.rt:106:14
 finish-requires : tie.Need-finish-requires
 finish-requires c κs = search needs
 
--- src/lib.rt:99:1
 returns : tie.Need-returns
 returns c = simp (c .hold .ensures, c .before .match .keys1)
 
--- src/lib.rt:99:1
 returns-2 : tie.Need-returns-2
 returns-2 c = simp (c .hold2 .ensures, c .before .match .keys2)
 
--- src/lib.rt:99:1
 returns-3 : tie.Need-returns-3
 returns-3 c = simp (c .hold3 .ensures, c .before .match .keys3)
 
--- src/lib.rt:99:1
 returns-4 : tie.Need-returns-4
-returns-4 c = simp (c .finish .ensures, ne-eqb _ _ (c .before .match .rest .1), ne-eqb _ _ (c .before .match .rest .0 .1), ne-eqb _ _ (c .before .match .rest .0 .0 .1))
+returns-4 c =
+    simp (
+      c .finish .ensures,
+      ne-eqb _ _ (c .before .match .rest .1),
+      ne-eqb _ _ (c .before .match .rest .0 .1),
+      ne-eqb _ _ (c .before .match .rest .0 .0 .1),
+    )
 
 pub escape-spec : {M : Type 1} → statement M
 escape-spec =

@@ -1,12 +1,11 @@
+-- `links::silent` meets its contract. Assumes nothing.
 use borrow.Author.Needs.{needs}
 use Rattle.links.proofs.silent.Statement.{statement}
 use Rattle.links.proofs.silent.Tie as tie
 
--- src/lib.rt:65:15
 silence-requires : tie.Need-silence-requires
 silence-requires c κs = search needs
 
--- src/lib.rt:59:1
 returns : tie.Need-returns
 returns c = simp (c .silence .ensures)
 

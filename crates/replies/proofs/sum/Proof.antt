@@ -1,26 +1,22 @@
+-- `replies::sum` meets its contract. Assumes nothing.
 use native.Mathlib.Omega.{arith}
 use borrow.Author.Needs.{needs}
 use Rattle.replies.proofs.Statuses.{weighed-top}
 use Rattle.replies.proofs.sum.Statement.{statement}
 use Rattle.replies.proofs.sum.Tie as tie
 
--- src/lib.rt:53:9
 weigh-requires : tie.Need-weigh-requires
 weigh-requires c κs = search needs
 
--- src/lib.rt:54:9
 weigh-requires-2 : tie.Need-weigh-requires-2
 weigh-requires-2 c κs = search needs
 
--- src/lib.rt:55:9
 weigh-requires-3 : tie.Need-weigh-requires-3
 weigh-requires-3 c κs = search needs
 
--- src/lib.rt:56:9
 weigh-requires-4 : tie.Need-weigh-requires-4
 weigh-requires-4 c κs = search needs
 
--- src/lib.rt:57:5
 add-result : tie.Need-add-result
 add-result c =
     omega (
@@ -29,7 +25,6 @@ add-result c =
       weighed-top (c .before .before .before .before .args .senders .socket) 8,
     )
 
--- src/lib.rt:57:5
 add-result-2 : tie.Need-add-result-2
 add-result-2 c =
     omega (
@@ -40,7 +35,6 @@ add-result-2 c =
       weighed-top (c .before .before .before .before .args .senders .modem) 4,
     )
 
--- src/lib.rt:57:5
 add-result-3 : tie.Need-add-result-3
 add-result-3 c =
     omega (
@@ -53,7 +47,6 @@ add-result-3 c =
       weighed-top (c .before .before .before .before .args .senders .keyboard) 2,
     )
 
--- src/lib.rt:57:5
 add-result-4 : tie.Need-add-result-4
 add-result-4 c =
     omega (
@@ -68,7 +61,6 @@ add-result-4 c =
       weighed-top (c .before .before .before .before .args .senders .screen) 1,
     )
 
--- src/lib.rt:50:1
 returns : tie.Need-returns
 returns c = search needs
 

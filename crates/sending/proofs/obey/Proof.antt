@@ -1,28 +1,30 @@
+-- `sending::obey` meets its contract. Assumes nothing.
 use Rattle.sending.specs.Sending.{obeyed}
 use borrow.Author.Needs.{needs}
 use Rattle.sending.proofs.obey.Statement.{statement}
 use Rattle.sending.proofs.obey.Tie as tie
 
--- src/lib.rt:170:9
 relink-requires : tie.Need-relink-requires
 relink-requires c κs = search needs
 
--- src/lib.rt:171:9
 codes-requires : tie.Need-codes-requires
 codes-requires c κs = search needs
 
--- src/lib.rt:172:19
 receivers-requires : tie.Need-receivers-requires
 receivers-requires c κs = search needs
 
--- src/lib.rt:172:9
 to-requires : tie.Need-to-requires
 to-requires c κs = search needs
 
--- src/lib.rt:167:1
 returns : tie.Need-returns
 unfolding obeyed
-returns c = simp (c .to .ensures, c .before .receivers .ensures, c .before .before .codes .ensures, c .before .before .before .relink .ensures)
+returns c =
+    simp (
+      c .to .ensures,
+      c .before .receivers .ensures,
+      c .before .before .codes .ensures,
+      c .before .before .before .relink .ensures,
+    )
 
 pub obey-spec : {M : Type 1} → statement M
 obey-spec =

@@ -1,40 +1,32 @@
+-- `sending::only` meets its contract. Assumes nothing.
 use borrow.Author.Needs.{needs}
 use Rattle.sending.proofs.only.Statement.{statement}
 use Rattle.sending.proofs.only.Tie as tie
 
--- src/lib.rt:85:9
 nowhere-requires : tie.Need-nowhere-requires
 nowhere-requires c κs = search needs
 
--- src/lib.rt:87:27
 enum-told : tie.Need-enum-told
 enum-told c = search needs
 
--- src/lib.rt:88:29
 enum-told-2 : tie.Need-enum-told-2
 enum-told-2 c = search needs
 
--- src/lib.rt:89:26
 enum-told-3 : tie.Need-enum-told-3
 enum-told-3 c = search needs
 
--- src/lib.rt:90:27
 enum-told-4 : tie.Need-enum-told-4
 enum-told-4 c = search needs
 
--- src/lib.rt:82:1
 returns : tie.Need-returns
 returns c = simp (c .enum-told .given .1, c .before .before .nowhere .ensures)
 
--- src/lib.rt:82:1
 returns-2 : tie.Need-returns-2
 returns-2 c = simp (c .enum-told2 .given .1, c .before .before .nowhere .ensures)
 
--- src/lib.rt:82:1
 returns-3 : tie.Need-returns-3
 returns-3 c = simp (c .enum-told3 .given .1, c .before .before .nowhere .ensures)
 
--- src/lib.rt:82:1
 returns-4 : tie.Need-returns-4
 returns-4 c = simp (c .enum-told4 .given .1, c .before .before .nowhere .ensures)
 

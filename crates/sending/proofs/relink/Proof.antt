@@ -1,48 +1,38 @@
+-- `sending::relink` meets its contract. Assumes nothing.
 use borrow.Author.Needs.{needs}
 use Rattle.sending.proofs.relink.Statement.{statement}
 use Rattle.sending.proofs.relink.Tie as tie
 
--- src/lib.rt:162:27
 enum-told : tie.Need-enum-told
 enum-told c = search needs
 
--- src/lib.rt:163:27
 enum-told-2 : tie.Need-enum-told-2
 enum-told-2 c = search needs
 
--- src/lib.rt:164:27
 enum-told-3 : tie.Need-enum-told-3
 enum-told-3 c = search needs
 
--- src/lib.rt:166:13
 enum-known-order : tie.Need-enum-known-order
 enum-known-order c = search needs
 
--- src/lib.rt:169:14
 linked-requires : tie.Need-linked-requires
 linked-requires c κs = search needs
 
--- src/lib.rt:170:26
 enum-told-4 : tie.Need-enum-told-4
 enum-told-4 c = search needs
 
--- src/lib.rt:158:1
 returns : tie.Need-returns
 returns c = search needs
 
--- src/lib.rt:158:1
 returns-2 : tie.Need-returns-2
 returns-2 c = search needs
 
--- src/lib.rt:158:1
 returns-3 : tie.Need-returns-3
 returns-3 c = search needs
 
--- src/lib.rt:158:1
 returns-4 : tie.Need-returns-4
 returns-4 c = simp (c .linked .ensures, c .before .before .order .given .1)
 
--- src/lib.rt:158:1
 returns-5 : tie.Need-returns-5
 returns-5 c = search needs
 

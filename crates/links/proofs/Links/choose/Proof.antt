@@ -1,26 +1,22 @@
+-- `links::Links::choose` meets its contract. Assumes nothing.
 use Rattle.links.specs.Calls.{choosing}
 use borrow.Author.Needs.{needs}
 use Rattle.links.proofs.Links.choose.Statement.{statement}
 use Rattle.links.proofs.Links.choose.Tie as tie
 
--- src/lib.rt:109:12
 in-range-requires : tie.Need-in-range-requires
 in-range-requires c κs = search needs
 
--- src/lib.rt:117:13
 silent-requires : tie.Need-silent-requires
 silent-requires c κs = search needs
 
--- src/lib.rt:117:13
 returns : tie.Need-returns
 unfolding choosing
 returns c = simp (c .silent .ensures, c .before .if1 .taken, ← c .before .before .in-range .ensures)
 
--- src/lib.rt:119:9
 silent-requires-2 : tie.Need-silent-requires-2
 silent-requires-2 c κs = search needs
 
--- src/lib.rt:106:5
 returns-2 : tie.Need-returns-2
 unfolding choosing
 returns-2 c = simp (c .silent2 .ensures, c .before .if1 .left, ← c .before .before .in-range .ensures)

@@ -1,36 +1,42 @@
-use borrow.Author.Tests.{le-leb, le-ltb, lt-leb, lt-ltb}
+-- `links::Links::from_keyboard` meets its contract. Assumes nothing.
+use borrow.Author.Tests.{le-ltb, lt-ltb}
 use Rattle.links.specs.Calls.{fromKeyboard}
 use borrow.Author.Needs.{needs}
 use Rattle.links.proofs.Links.from_keyboard.Statement.{statement}
 use Rattle.links.proofs.Links.from_keyboard.Tie as tie
 
--- src/lib.rt:131:12
 in-range-requires : tie.Need-in-range-requires
 in-range-requires c κs = search needs
 
--- src/lib.rt:133:17
 silent-requires : tie.Need-silent-requires
 silent-requires c κs = search needs
 
--- src/lib.rt:133:17
 returns : tie.Need-returns
 unfolding fromKeyboard
-returns c = simp (c .silent .ensures, lt-ltb _ _ (c .before .if2 .taken), lt-leb _ _ (c .before .if2 .taken), c .before .before .if1 .taken, ← c .before .before .before .in-range .ensures)
+returns c =
+    simp (
+      c .silent .ensures,
+      lt-ltb _ _ (c .before .if2 .taken),
+      c .before .before .if1 .taken,
+      ← c .before .before .before .in-range .ensures,
+    )
 
--- src/lib.rt:135:17
 obey-requires : tie.Need-obey-requires
 obey-requires c κs = search needs
 
--- src/lib.rt:137:13
 returns-2 : tie.Need-returns-2
 unfolding fromKeyboard
-returns-2 c = simp (c .before .obey .ensures, le-ltb _ _ (c .before .before .if2 .left), le-leb _ _ (c .before .before .if2 .left), c .before .before .before .if1 .taken, ← c .before .before .before .before .in-range .ensures)
+returns-2 c =
+    simp (
+      c .before .obey .ensures,
+      le-ltb _ _ (c .before .before .if2 .left),
+      c .before .before .before .if1 .taken,
+      ← c .before .before .before .before .in-range .ensures,
+    )
 
--- src/lib.rt:143:9
 silent-requires-2 : tie.Need-silent-requires-2
 silent-requires-2 c κs = search needs
 
--- src/lib.rt:128:5
 returns-3 : tie.Need-returns-3
 unfolding fromKeyboard
 returns-3 c = simp (c .silent2 .ensures, c .before .if1 .left, ← c .before .before .in-range .ensures)

@@ -1,20 +1,17 @@
+-- `links::Links::left` meets its contract. Assumes nothing.
 use borrow.Author.Needs.{needs}
 use Rattle.links.proofs.Links.left.Statement.{statement}
 use Rattle.links.proofs.Links.left.Tie as tie
 
--- src/ears.rt:41:27
 enum-told : tie.Need-enum-told
 enum-told c = search needs
 
--- src/ears.rt:46:28
 enum-told-2 : tie.Need-enum-told-2
 enum-told-2 c = search needs
 
--- src/ears.rt:35:5
 returns : tie.Need-returns
 returns c = simp (c .enum-told .given .1)
 
--- src/ears.rt:35:5
 returns-2 : tie.Need-returns-2
 returns-2 c = simp (c .enum-told2 .given .1)
 

@@ -1,12 +1,11 @@
+-- `links::Links::local` meets its contract. Assumes nothing.
 use borrow.Author.Needs.{needs}
 use Rattle.links.proofs.Links.local.Statement.{statement}
 use Rattle.links.proofs.Links.local.Tie as tie
 
--- src/lib.rt:75:20
 local-table-requires : tie.Need-local-table-requires
 local-table-requires c κs = search needs
 
--- src/lib.rt:71:5
 returns : tie.Need-returns
 returns c = simp (c .local-table .ensures)
 

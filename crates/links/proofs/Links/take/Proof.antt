@@ -1,21 +1,18 @@
+-- `links::Links::take` meets its contract. Assumes nothing.
 use Rattle.links.specs.Calls.{taking}
 use borrow.Author.Needs.{needs}
 use Rattle.links.proofs.Links.take.Statement.{statement}
 use Rattle.links.proofs.Links.take.Tie as tie
 
--- src/lib.rt:152:46
 name-requires : tie.Need-name-requires
 name-requires c κs = search needs
 
--- src/lib.rt:152:13
 obey-requires : tie.Need-obey-requires
 obey-requires c κs = search needs
 
--- src/lib.rt:155:19
 left-requires : tie.Need-left-requires
 left-requires c κs = search needs
 
--- src/lib.rt:147:5
 returns : tie.Need-returns
 unfolding taking
 returns c = simp (c .left .ensures, c .before .before .obey .ensures, c .before .before .before .name .ensures)

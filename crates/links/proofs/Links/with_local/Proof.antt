@@ -1,17 +1,15 @@
+-- `links::Links::with_local` meets its contract. Assumes nothing.
 use Rattle.links.specs.Calls.{choosing}
 use borrow.Author.Needs.{needs}
 use Rattle.links.proofs.Links.with_local.Statement.{statement}
 use Rattle.links.proofs.Links.with_local.Tie as tie
 
--- src/lib.rt:126:21
 local-table-requires : tie.Need-local-table-requires
 local-table-requires c κs = search needs
 
--- src/lib.rt:126:9
 choose-requires : tie.Need-choose-requires
 choose-requires c κs = search needs
 
--- src/lib.rt:123:5
 returns : tie.Need-returns
 unfolding choosing
 returns c = simp (c .choose .ensures, c .before .local-table .ensures)
