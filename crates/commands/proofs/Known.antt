@@ -1,5 +1,5 @@
 -- A link or ask command orders just that, and every other command nothing. Assumes nothing.
-use mathlib.Core.Path.{_≡_, refl, sym, ap, ap₂, _∙_, subst}
+use mathlib.Core.Path.{_≡_, refl, ap, ap₂, _∙_}
 use mathlib.Core.Bool.{Bool, true, false, cond}
 use Prim.Native.Nat.{ℕ}
 use lib.Dec.{eqb}
@@ -29,7 +29,8 @@ sender-named Keyboard = refl
 sender-named Modem = refl
 sender-named Socket = refl
 
-pub link-ordered : (receiver sender : Module) (on : Bool) → ordered (linkCommand receiver sender on) ≡ Link receiver sender on
+pub link-ordered : (receiver sender : Module) (on : Bool)
+    → ordered (linkCommand receiver sender on) ≡ Link receiver sender on
 link-ordered r s true = ap₂ (λ (a b : Named). linking a b true) (receiver-named r) (sender-named s)
 link-ordered r s false = ap₂ (λ (a b : Named). linking a b false) (receiver-named r) (sender-named s)
 
@@ -56,13 +57,15 @@ unfolding CodeFor
 asked x y e (Is m) f = ap₂ pro2 e f
 asked x y e Nobody f = tt
 
-linked : (x y z : ℕ) (on : Bool) → x ≡ cond on 97 96 → (a b : Named) → CodeFor receiverCode y a → CodeFor senderCode z b
-    → SpelledFor (linking a b on) (pro3 x y z)
+linked : (x y z : ℕ) (on : Bool) → x ≡ cond on 97 96
+    → SpelledFor (linking (named receiverCode y) (named senderCode z) on) (pro3 x y z)
 unfolding CodeFor
-linked x y z on e Nobody b f g = tt
-linked x y z on e (Is r) Nobody f g = tt
-linked x y z on e (Is r) (Is s) f g =
-    ap (λ (v : ℕ). pro3 v y z) e ∙ ap₂ (λ (v w : ℕ). pro3 (cond on 97 96) v w) f g
+linked x y z on e = go (named receiverCode y) (named senderCode z) (code-for receiverCode y) (code-for senderCode z)
+  where
+    go : (a b : Named) → CodeFor receiverCode y a → CodeFor senderCode z b → SpelledFor (linking a b on) (pro3 x y z)
+    go Nobody b f g = tt
+    go (Is r) Nobody f g = tt
+    go (Is r) (Is s) f g = ap (λ (v : ℕ). pro3 v y z) e ∙ ap₂ (λ (v w : ℕ). pro3 (cond on 97 96) v w) f g
 
 pub spelled-for : (c : Command) → SpelledFor (ordered c) c
 spelled-for (pro1 x) = tt
@@ -71,10 +74,9 @@ spelled-for (pro2 x y) =
     (λ e. asked x y (eqb-true x 98 e) (named receiverCode y) (code-for receiverCode y)) (λ e. tt)
 spelled-for (pro3 x y z) =
     chosen (λ (o : Order). SpelledFor o (pro3 x y z)) (eqb x 97)
-    (λ e. linked x y z true (eqb-true x 97 e) (named receiverCode y) (named senderCode z) (code-for receiverCode y) (code-for senderCode z))
+    (λ e. linked x y z true (eqb-true x 97 e))
     (λ e. chosen (λ (o : Order). SpelledFor o (pro3 x y z)) (eqb x 96)
-    (λ f. linked x y z false (eqb-true x 96 f) (named receiverCode y) (named senderCode z) (code-for receiverCode y) (code-for senderCode z))
-    (λ f. tt))
+    (λ f. linked x y z false (eqb-true x 96 f)) (λ f. tt))
 
 -- ---- nothing of a command is passed on
 

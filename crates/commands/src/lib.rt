@@ -1,8 +1,8 @@
 // What a whole command orders (01, "Links and commands"; 001, part 2, chapter 6, sections 1 to 3). A command that names
 // nobody is unknown, and orders nothing.
 //
-// specs/Commands says how each command is spelled and what it orders; proofs/ shows that a link or ask command orders just
-// that, and no other command anything.
+// specs/Commands says how each command is spelled and what it orders; proofs/ shows that a link or ask command orders
+// just that, and no other command anything.
 ghost use mathlib.Core.Path.{_≡_};
 ghost use Rattle.wiring.specs.Modules.{receiverCode, senderCode};
 ghost use Rattle.commands.specs.Commands.{named, asking, linking, orderedByTwo, orderedByThree};

@@ -1,7 +1,7 @@
--- An unfinished sequence is in range exactly when each of its codes is at most 127, and stays so; what is passed on is a
--- value of 0 to 127. Assumes nothing.
+-- An unfinished sequence is in range exactly when each of its codes is at most 127, and stays so; what is passed on is
+-- a value of 0 to 127. Assumes nothing.
 use mathlib.Core.Path.{_≡_, refl}
-use mathlib.Core.Bool.{Bool, true, false, cond, _&&_}
+use mathlib.Core.Bool.{true, _&&_}
 use mathlib.Core.List.{List, [], _∷_}
 use Prim.Native.Nat.{ℕ, _≤_, _<_}
 use native.Mathlib.Omega.{arith}
@@ -77,7 +77,8 @@ kept Pro1 v e h = refl
 kept Pro2 v e h = le-leb v 127 h
 kept (Pro2With x) v e h = refl
 kept Pro3 v e h = le-leb v 127 h
-kept (Pro3With x) v e h = is-true (leb x 127 && leb v 127) (both (leb x 127) (leb v 127) (holds e) (holds (le-leb v 127 h)))
+kept (Pro3With x) v e h =
+    is-true (leb x 127 && leb v 127) (both (leb x 127) (leb v 127) (holds e) (holds (le-leb v 127 h)))
 kept (Pro3Both x y) v e h = refl
 
 -- ---- what is passed on

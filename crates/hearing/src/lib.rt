@@ -1,4 +1,5 @@
-// What one value from modem or socket means (01, "Links and commands"): it is passed on, waits for more, or ends a command.
+// What one value from modem or socket means (01, "Links and commands"): it is passed on, waits for more, or ends a
+// command.
 //
 // `hear` takes an unfinished sequence and one value, and says what is unfinished then and what is ordered. It knows no
 // table. specs/Hearing says the same; proofs/ shows that it takes in just the commands of `commands`.

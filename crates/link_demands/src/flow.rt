@@ -13,8 +13,8 @@ ghost use Rattle.links.specs.States.{localLinks, nameOf, unfinished};
 ghost use Rattle.links.specs.Runs.{Call, key, value, obey, run};
 ghost use Rattle.links.specs.Runs.{InRange, Says, PassedOn, freed, Swallowed};
 
-// A value other than ESC from modem or socket with nothing unfinished, and any value from the keyboard, reaches just the
-// receivers that its sender is linked to, and changes no state.
+// A value other than ESC from modem or socket with nothing unfinished, and any value from the keyboard, reaches just
+// the receivers that its sender is linked to, and changes no state.
 pub fn values_go_by_the_links()
     ensures heard { λ _. ⌜ ((l : Links) (e : Ear) (v : ℕ) → InRange l → unfinished l e ≡ Free → v < 128 → (v ≡ 27 → ⊥)
         → PassedOn l (value e v) (nameOf e) (v ∷ []) l) ⌝ }

@@ -31,8 +31,8 @@ pub fn a_command_is_known_by_its_codes()
     ensures only { λ _. ⌜ ((c : Command) → SpelledFor (ordered c) c) ⌝ }
 {}
 
-// After PRO1, PRO2 and PRO3 exactly one, two and three codes are taken, whatever they are: until the last the codes so far
-// are unfinished, and then nothing is.
+// After PRO1, PRO2 and PRO3 exactly one, two and three codes are taken, whatever they are: until the last the codes so
+// far are unfinished, and then nothing is.
 pub fn exactly_so_many_codes_are_taken()
     ensures midway { λ _. ⌜ ((e : Ear) (l : Links) (cs : List Call) (c : Command) (k : ℕ) → k < length (spelled c)
         → Says e l cs (take k (spelled c)) → codesOf (unfinished (run l cs) e) ≡ take k (spelled c)) ⌝ }
@@ -66,7 +66,8 @@ pub fn one_link_changes()
     ensures link { λ _. ⌜ ((e : Ear) (l : Links) (cs : List Call) (receiver sender : Module) (on : Bool)
         → Says e l cs (beginning (linkCommand receiver sender on))
         → (a b : Module) → reaches (obey (value e (senderCode sender)) (run l cs) .next .table) a b
-        ≡ cond (not (same receiver sender) && (same a sender && same b receiver)) on (reaches (run l cs .table) a b)) ⌝ }
+        ≡ cond (not (same receiver sender) && (same a sender && same b receiver)) on
+        (reaches (run l cs .table) a b)) ⌝ }
     ensures ask { λ _. ⌜ ((e : Ear) (l : Links) (cs : List Call) (receiver : Module)
         → Says e l cs (beginning (askCommand receiver))
         → obey (value e (receiverCode receiver)) (run l cs) .next .table ≡ run l cs .table) ⌝ }

@@ -1,5 +1,5 @@
-// Demand 1 on the links: whatever state and value are handed in, a call ends, and each refusal has its number and changes
-// nothing.
+// Demand 1 on the links: whatever state and value are handed in, a call ends, and each refusal has its number and
+// changes nothing.
 ghost use mathlib.Core.Path.{_≡_};
 ghost use mathlib.Core.Bool.{true, false};
 ghost use mathlib.Core.List.{List, [], _∷_};

@@ -21,5 +21,6 @@ begins-connected = connected-statuses
 pub local-chosen : (l : Links) → InRange l → obey toLocal l ≡ taken (withTable l (localLinks .table)) silence
 local-chosen l r = table-chosen l localTable (passed l r)
 
-pub connected-chosen : (l : Links) → InRange l → obey toConnected l ≡ taken (withTable l (connectedLinks .table)) silence
+pub connected-chosen : (l : Links) → InRange l
+    → obey toConnected l ≡ taken (withTable l (connectedLinks .table)) silence
 connected-chosen l r = table-chosen l connectedTable (passed l r)

@@ -1,9 +1,8 @@
 -- What is passed on reaches just the receivers that its sender is linked to. Assumes nothing.
-use mathlib.Core.Path.{_≡_, refl, sym, ap, _∙_}
+use mathlib.Core.Path.{_≡_, sym, ap, _∙_}
 use mathlib.Core.Bool.{cond}
 use mathlib.Core.List.{List, [], _∷_}
 use Prim.Native.Nat.{ℕ, _<_}
-use native.Mathlib.Omega.{arith}
 use Rattle.wiring.specs.declared.Module.{Module}
 use Rattle.wiring.specs.declared.Module.the-variants.{Keyboard}
 use Rattle.wiring.specs.declared.Table.{Table}
@@ -12,7 +11,7 @@ use Rattle.hearing.specs.declared.Unfinished.{Unfinished}
 use Rattle.hearing.specs.declared.Unfinished.the-variants.{Free}
 use Rattle.commands.specs.declared.Order.{Order}
 use Rattle.commands.specs.declared.Order.the-variants.{Pass, Pair}
-use Rattle.hearing.specs.Hearing.{does, heard, leftAfter}
+use Rattle.hearing.specs.Hearing.{does, heard}
 use Rattle.hearing.proofs.Spelling.{plain, esc-held, paired}
 use Rattle.sending.specs.Sending.{obeyed, gets}
 use Rattle.sending.proofs.Getting.{pass-goes, pair-goes, table-after}
@@ -44,7 +43,8 @@ free-already : (l : Links) (e : Ear) → unfinished l e ≡ Free → freed l e �
 free-already l modem f = ap (left l modem (l .table)) (sym f)
 free-already l socket f = ap (left l socket (l .table)) (sym f)
 
-restated : (l : Links) (c : Call) (m : Module) (vs : List ℕ) {a b : Links} → a ≡ b → PassedOn l c m vs a → PassedOn l c m vs b
+restated : (l : Links) (c : Call) (m : Module) (vs : List ℕ) {a b : Links} → a ≡ b
+    → PassedOn l c m vs a → PassedOn l c m vs b
 restated l c m vs e p = record { taken = p .taken; state = p .state ∙ e; reached = p .reached }
 
 pub plain-goes : (l : Links) (e : Ear) (v : ℕ) → InRange l → unfinished l e ≡ Free → v < 128 → (v ≡ 27 → ⊥)

@@ -2,7 +2,7 @@
 use mathlib.Core.Path.{_≡_, refl, sym, ap, ap₂, _∙_}
 use mathlib.Core.Bool.{Bool, true, false, cond}
 use mathlib.Core.List.{List, [], _∷_, _++_, map}
-use Prim.Native.Nat.{ℕ, _<_}
+use Prim.Native.Nat.{ℕ}
 use native.Mathlib.Omega.{arith}
 use lib.Dec.{ltb}
 use borrow.Author.Tests.{le-ltb}
@@ -21,7 +21,8 @@ use Rattle.links.specs.declared.Ear.the-variants.{Modem as modem, Socket
 use Rattle.links.specs.declared.Outcome.{Outcome}
 use Rattle.links.specs.States.{unfinished, inRange, localLinks}
 use Rattle.links.specs.Calls.{choosing, fromEar}
-use Rattle.links.specs.Runs.{sameEar, Call, key, value, toLocal, toConnected, obey, run, saidAt, said, InRange, Says}
+use Rattle.links.specs.Runs.{sameEar, Call, key, value, toLocal, toConnected, obey, run, saidAt, said}
+use Rattle.links.specs.Runs.{InRange, Says}
 use Rattle.links.proofs.Steps.{accepted, own-heard, other-heard, keys-change-nothing}
 use Rattle.links.proofs.Ranges.{passed, kept, local-in}
 use Rattle.links.proofs.Refusals.{large, small}
@@ -36,7 +37,8 @@ took socket socket l v i true h = ap (λ (o : Outcome). o .next .socket) (large 
 took modem modem l v i false h =
     ap (λ (o : Outcome). o .next .modem) (accepted modem l v i (small v h)) ∙ own-heard modem l (heard (l .modem) v)
 took modem socket l v i false h =
-    ap (λ (o : Outcome). o .next .modem) (accepted socket l v i (small v h)) ∙ other-heard socket l (heard (l .socket) v)
+    ap (λ (o : Outcome). o .next .modem) (accepted socket l v i (small v h))
+    ∙ other-heard socket l (heard (l .socket) v)
 took socket modem l v i false h =
     ap (λ (o : Outcome). o .next .socket) (accepted modem l v i (small v h)) ∙ other-heard modem l (heard (l .modem) v)
 took socket socket l v i false h =

@@ -1,12 +1,11 @@
 -- Every call keeps the range, and the test that the calls make tells it. Assumes nothing.
-use mathlib.Core.Path.{_≡_, refl, sym, ap, _∙_, subst, subst⁻¹}
-use mathlib.Core.Bool.{Bool, true, false, cond, _&&_, not}
+use mathlib.Core.Path.{_≡_, refl, subst⁻¹}
+use mathlib.Core.Bool.{Bool, true, false, _&&_, not}
 use mathlib.Core.List.{List, [], _∷_}
-use Prim.Native.Nat.{ℕ, _≤_, _<_}
-use native.Mathlib.Omega.{arith}
+use Prim.Native.Nat.{ℕ, _≤_}
 use lib.Dec.{ltb, T}
 use borrow.Author.Tests.{ltb-false}
-use Rattle.laws.proofs.Computed.{chosen, and-left, and-right, holds, is-true, both}
+use Rattle.laws.proofs.Computed.{chosen, and-left, and-right, holds, is-true}
 use Rattle.values.specs.Large.{Values}
 use Rattle.values.proofs.Found.{values-none}
 use Rattle.wiring.specs.declared.Table.{Table}
@@ -14,7 +13,6 @@ use Rattle.wiring.specs.Tables.{localTable, connectedTable, selfLinked, NoneIts
 use Rattle.wiring.proofs.Selves.{tested as selves-tested, passed as selves-passed}
 use Rattle.wiring.proofs.Selves.{local-none, connected-none}
 use Rattle.hearing.specs.declared.Unfinished.{Unfinished}
-use Rattle.hearing.specs.declared.Unfinished.the-variants.{Free}
 use Rattle.hearing.specs.Hearing.{codesOf, inRange as sequenceInRange, heard}
 use Rattle.hearing.proofs.Ranges.{tested as codes-tested, passed as codes-passed, kept as codes-kept}
 use Rattle.sending.proofs.Getting.{none-itself-after}
@@ -41,7 +39,8 @@ tested l e =
     let port = sequenceInRange (l .socket) in
     let rest = and-right self (line && port) (holds e) in
     record {
-      none-itself = selves-tested (l .table) (not-true (selfLinked (l .table)) (and-left self (line && port) (holds e)));
+      none-itself =
+          selves-tested (l .table) (not-true (selfLinked (l .table)) (and-left self (line && port) (holds e)));
       small = small (is-true line (and-left line port rest)) (is-true port (and-right line port rest));
     }
   where
@@ -53,7 +52,11 @@ tested l e =
 pub passed : (l : Links) → InRange l → inRange l ≡ true
 unfolding inRange
 passed l r =
-    simp (selves-passed (l .table) (r .none-itself), codes-passed (l .modem) (r .small modem), codes-passed (l .socket) (r .small socket))
+    simp (
+      selves-passed (l .table) (r .none-itself),
+      codes-passed (l .modem) (r .small modem),
+      codes-passed (l .socket) (r .small socket),
+    )
 
 -- ---- every call keeps it
 
@@ -74,13 +77,19 @@ codes-still u v s h = codes-tested (heard u v .unfinished) (codes-kept u v (code
 heard-kept : (l : Links) (e : Ear) (v : ℕ) → InRange l → v ≤ 127 → InRange (taking l e (heard (unfinished l e) v) .next)
 unfolding taking
 heard-kept l modem v r h =
-    record { none-itself = none-itself-after (l .table) (nameOf modem) (heard (l .modem) v .order) (r .none-itself); small = small }
+    record {
+      none-itself = none-itself-after (l .table) (nameOf modem) (heard (l .modem) v .order) (r .none-itself);
+      small = small;
+    }
   where
     small : (e : Ear) → Values (codesOf (unfinished (taking l modem (heard (l .modem) v) .next) e))
     small modem = codes-still (l .modem) v (r .small modem) h
     small socket = r .small socket
 heard-kept l socket v r h =
-    record { none-itself = none-itself-after (l .table) (nameOf socket) (heard (l .socket) v .order) (r .none-itself); small = small }
+    record {
+      none-itself = none-itself-after (l .table) (nameOf socket) (heard (l .socket) v .order) (r .none-itself);
+      small = small;
+    }
   where
     small : (e : Ear) → Values (codesOf (unfinished (taking l socket (heard (l .socket) v) .next) e))
     small modem = r .small modem

@@ -11,7 +11,6 @@ use Rattle.numbers.specs.Numbers.{Conditions, numberOf, Told}
 use Rattle.wiring.specs.Tables.{localTable, connectedTable}
 use Rattle.hearing.specs.Hearing.{heard}
 use Rattle.links.specs.declared.Links.{Links}
-use Rattle.links.specs.declared.Answer.{Answer}
 use Rattle.links.specs.declared.Answer.the-variants.{Taken, TooLarge, Broken}
 use Rattle.links.specs.declared.Outcome.{Outcome}
 use Rattle.links.specs.States.{unfinished, inRange}

@@ -1,7 +1,7 @@
 -- What the values of a command do. Assumes nothing.
 use mathlib.Core.Path.{_≡_, refl, sym, ap, _∙_, subst⁻¹}
 use mathlib.Core.Bool.{Bool, true, false, cond, _&&_, not}
-use mathlib.Core.List.{List, [], _∷_}
+use mathlib.Core.List.{List, []}
 use Prim.Native.Nat.{ℕ, _+_, _<_}
 use lib.Dec.{ltb}
 use lib.ListN.{length, getD, take}
@@ -17,7 +17,7 @@ use Rattle.commands.specs.declared.Order.{Order}
 use Rattle.commands.specs.declared.Order.the-variants.{Nothing, Link, Ask}
 use Rattle.hearing.specs.declared.Heard.{Heard}
 use Rattle.commands.specs.Commands.{Command, spelled, beginning, lastOf, ordered, linkCommand, askCommand}
-use Rattle.hearing.specs.Hearing.{codesOf, does, heard, leftAfter}
+use Rattle.hearing.specs.Hearing.{codesOf, does, heard}
 use Rattle.commands.proofs.Known.{link-ordered, ask-ordered}
 use Rattle.hearing.proofs.Spelling.{midway, over, ends, waits}
 use Rattle.sending.specs.declared.Sent.{Sent}

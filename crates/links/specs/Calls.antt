@@ -1,5 +1,5 @@
--- What each call answers, hands back and sends, for any state and any value (01, "Links and commands", "Numbers given").
--- Assumes nothing.
+-- What each call answers, hands back and sends, for any state and any value (01, "Links and commands", "Numbers
+-- given"). Assumes nothing.
 use mathlib.Core.Bool.{cond}
 use mathlib.Core.List.{[], _∷_}
 use Prim.Native.Nat.{ℕ}

@@ -158,7 +158,10 @@ unfolding obeyed
 few-sent t from o s r =
     let after = tableAfter t o in
     subst⁻¹ FewIn (part-of (receiversFor after from o) (packed (bytesFor after o)) r)
-    (chosen FewIn (marked (receiversFor after from o) r) (λ e. few-packed (bytesFor after o) (few-bytes after o s)) (λ e. few-none))
+    (chosen FewIn (marked (receiversFor after from o) r)
+    (λ e. few-packed (bytesFor after o) (few-bytes after o s)) (λ e. few-none))
 
 pub few-silence : (r : Module) → FewIn (partOf silence r)
-few-silence r = subst⁻¹ FewIn (part-of nowhere (packed []) r) (chosen FewIn (marked nowhere r) (λ e. few-none) (λ e. few-none))
+few-silence r =
+    subst⁻¹ FewIn (part-of nowhere (packed []) r)
+    (chosen FewIn (marked nowhere r) (λ e. few-none) (λ e. few-none))

@@ -1,5 +1,5 @@
-// What an order does (01, "Links and commands"): a value or an ESC pair goes along the links of its sender; a command sets
-// or clears a link, and a reply goes to the sender alone.
+// What an order does (01, "Links and commands"): a value or an ESC pair goes along the links of its sender; a command
+// sets or clears a link, and a reply goes to the sender alone.
 //
 // specs/Sending says so; proofs/ shows what each receiver gets of it.
 ghost use mathlib.Core.Path.{_≡_};

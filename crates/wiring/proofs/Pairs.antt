@@ -6,7 +6,7 @@ use Rattle.wiring.specs.declared.Module.the-variants.{Screen, Keyboard, 
 use Rattle.wiring.specs.declared.Row.{Row}
 use Rattle.wiring.specs.declared.Table.{Table}
 use Rattle.wiring.specs.Modules.{same}
-use Rattle.wiring.specs.Tables.{rowOf, marked, reaches, marking, withRow, relinked, linked}
+use Rattle.wiring.specs.Tables.{marked, reaches, marking, relinked, linked}
 
 row-pairs : (w : Row) (r b : Module) (on : Bool) → marked (marking w r on) b ≡ cond (same b r) on (marked w b)
 row-pairs w Screen Screen on = refl

@@ -30,7 +30,8 @@ never : (r s m : Module) → (not (same r s) && (same m s && same m r)) ≡ fals
 unfolding everyModule another
 never r s m =
     was (not (same r s) && (same m s && same m r))
-    (each (another r s) (each (λ t. everyModule (another r t)) (each (λ q. everyModule (λ t. everyModule (another q t))) tt r) s) m)
+    (each (another r s)
+    (each (λ t. everyModule (another r t)) (each (λ q. everyModule (λ t. everyModule (another q t))) tt r) s) m)
   where
     was : (t : Bool) → T (not t) → t ≡ false
     was true e = absurd e

@@ -1,7 +1,7 @@
 -- "A table says for each pair whether the sender's bytes reach the receiver." (01, "Links and commands"). Assumes
 -- nothing.
 use mathlib.Core.Path.{_≡_}
-use mathlib.Core.Bool.{Bool, true, false, cond, _&&_, _||_}
+use mathlib.Core.Bool.{Bool, false, cond, _&&_, _||_}
 use mathlib.Core.List.{List, [], _∷_}
 use Rattle.wiring.specs.declared.Module.{Module}
 use Rattle.wiring.specs.declared.Module.the-variants.{Screen, Keyboard, Modem, Socket}
@@ -43,7 +43,12 @@ rowFor ps sender =
 
 abbrev pub tableOf : List (Module × Module) → Table
 tableOf ps =
-    record { screen = rowFor ps Screen; keyboard = rowFor ps Keyboard; modem = rowFor ps Modem; socket = rowFor ps Socket }
+    record {
+      screen = rowFor ps Screen;
+      keyboard = rowFor ps Keyboard;
+      modem = rowFor ps Modem;
+      socket = rowFor ps Socket;
+    }
 
 -- 001, part 2, section 1-2-1: «clavier vers modem», «modem vers écran», «clavier vers prise péri-informatique», «prise
 -- péri-informatique vers écran»

@@ -4,7 +4,10 @@ use Rattle.link_demands.proofs.states.every_call_keeps_the_range.Statem
 use Rattle.link_demands.proofs.states.every_call_keeps_the_range.Tie as tie
 
 returns : tie.Need-returns
-returns c = ((local-in, connected-in), (λ l r cs. run-kept l cs r, (λ l r cs m. run-kept l cs r .none-itself m, (passed, tested))))
+returns c = (
+  (local-in, connected-in),
+  (λ l r cs. run-kept l cs r, (λ l r cs m. run-kept l cs r .none-itself m, (passed, tested))),
+)
 
 pub every-call-keeps-the-range-spec : {M : Type 1} → statement M
 every-call-keeps-the-range-spec = tie.close (tie.spec returns)
