@@ -5,6 +5,18 @@ mod block_scripts;
 mod judge;
 mod limits;
 mod line_scripts;
+mod links_apart;
+mod links_broken;
+mod links_codes;
+mod links_escapes;
+mod links_every_code;
+mod links_lines;
+mod links_pairs;
+mod links_random;
+mod links_scripts;
+mod links_state;
+mod links_tables;
+mod links_writing;
 mod polynomial;
 mod receiver;
 mod receiver_broken;
@@ -39,7 +51,7 @@ use script::Script;
 type Stored = (&'static str, fn() -> Script);
 
 /// Every stored script. A new family of commands adds its own here.
-const STORED: [Stored; 22] = [
+const STORED: [Stored; 30] = [
     ("cards", block_scripts::cards),
     ("making", block_scripts::making),
     ("lengths", block_scripts::lengths),
@@ -62,6 +74,14 @@ const STORED: [Stored; 22] = [
     ("scr-runs", screen_runs::runs),
     ("scr-random", screen_random::random),
     ("scr-lines", screen_lines::lines),
+    ("lnk-tables", links_tables::tables),
+    ("lnk-pairs", links_pairs::pairs),
+    ("lnk-commands", links_every_code::commands),
+    ("lnk-escapes", links_escapes::escapes),
+    ("lnk-apart", links_apart::apart),
+    ("lnk-broken", links_broken::broken),
+    ("lnk-random", links_random::random),
+    ("lnk-lines", links_lines::lines),
 ];
 
 fn main() -> ExitCode {

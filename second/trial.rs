@@ -4,6 +4,7 @@ use std::io::{self, BufRead, Write};
 
 use crate::block_commands::BlockCommands;
 use crate::limits::LONGEST_LINE;
+use crate::links_commands::LinksCommands;
 use crate::reading;
 use crate::receiver_commands::ReceiverCommands;
 use crate::screen_commands::ScreenCommands;
@@ -21,6 +22,7 @@ fn start_state() -> Vec<Box<dyn Family>> {
         Box::new(BlockCommands),
         Box::new(ReceiverCommands::start()),
         Box::new(ScreenCommands::start()),
+        Box::new(LinksCommands::start()),
     ]
 }
 
