@@ -7,20 +7,25 @@
 // parts.rt      parts of lent memory
 // blocks.rt     the commands of the block code
 // receiving.rt  the commands of the line receiver
-// screening.rt  the commands of the screen; each further family of commands is such a file
+// screening.rt  the commands of the screen
 // loading.rt    the words that name a screen's state
 // showing.rt    a screen's state as words
+// linking.rt    the commands of the links; each further family of commands is such a file
+// wires.rt      the words that name a state of the links, and such a state as words
 mod blocks;
 mod lines;
+mod linking;
 mod loading;
 mod parts;
 mod receiving;
 mod screening;
 mod showing;
+mod wires;
 mod words;
 
 use lines::At;
 use lines::LONGEST;
+use links::Links;
 use page::Screen;
 use parts::first;
 use receiver::Receiver;
@@ -42,7 +47,7 @@ fn family(line: &[u8], length: usize) -> usize {
     if length > LONGEST {
         return NONE;
     }
-    place_among(part(line, b' ', 0), b"make judge rx scr")
+    place_among(part(line, b' ', 0), b"make judge rx scr lnk")
 }
 
 // Ends the answer to a line, which is `? NUMBER` where it is no command; false where it could not be written.
@@ -58,13 +63,15 @@ fn end(known: bool, number: u64) -> bool {
     false
 }
 
-// Runs one script to its end, or until an answer cannot be written. `name` is for error lines. The receiver and the
-// screen are held here alone, and handed on for their own commands; no script has more lines than a u64 counts.
+// Runs one script to its end, or until an answer cannot be written. `name` is for error lines. The receiver, the
+// screen and the links are held here alone, and handed on for their own commands; no script has more lines than a u64
+// counts.
 fn run(fd: i32, name: &[u8]) {
     let mut portion = io::large_buffer();
     let mut line = [0u8; LONGEST];
     let mut receiver = Receiver::new();
     let mut screen = Screen::fresh();
+    let mut links = Links::local();
     let mut at = At {
         from: 0,
         to: 0,
@@ -84,6 +91,7 @@ fn run(fd: i32, name: &[u8]) {
                 1 => known = blocks::judge(words),
                 2 => receiver = receiving::obey(words, receiver, &mut known),
                 3 => screen = screening::obey(words, screen, &mut known),
+                4 => links = linking::obey(words, links, &mut known),
                 _ => known = false,
             }
             if !end(known, number) {

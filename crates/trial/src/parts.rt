@@ -8,6 +8,14 @@ pub(crate) fn first(s: &[u8], n: usize) -> &[u8] {
     s
 }
 
+// The bytes after those.
+pub(crate) fn past(s: &[u8], n: usize) -> &[u8] {
+    if n < s.len() {
+        return &s[n..];
+    }
+    &s[s.len()..]
+}
+
 // How much is used where something did not fit: more than any memory has.
 pub(crate) const FULL: usize = usize::MAX;
 

@@ -7,11 +7,11 @@ use Rattle.trial.proofs.run.Statement.{statement}
 use Rattle.trial.proofs.run.Tie as tie
 
 abbrev Inv-loop : tie.InvT-loop
-Inv-loop fd name portion₀ line₀ receiver₀ screen₀ at₀ number₀ portion line receiver screen at number =
+Inv-loop fd name portion₀ line₀ receiver₀ screen₀ links₀ at₀ number₀ portion line receiver screen links at number =
     (length portion ≡ 65536) × (length line ≡ 9000)
 
 abbrev μ-loop : tie.MeasureT-loop
-μ-loop fd name portion₀ line₀ receiver₀ screen₀ at₀ number₀ portion line receiver screen at number =
+μ-loop fd name portion₀ line₀ receiver₀ screen₀ links₀ at₀ number₀ portion line receiver screen links at number =
     18446744073709551615 - number
 
 large-buffer-requires : tie.Need-large-buffer-requires Inv-loop μ-loop
@@ -22,6 +22,9 @@ new-requires c κs = search needs
 
 fresh-requires : tie.Need-fresh-requires Inv-loop μ-loop
 fresh-requires c κs = search needs
+
+local-requires : tie.Need-local-requires Inv-loop μ-loop
+local-requires c κs = search needs
 
 loop-holds : tie.Need-loop-holds Inv-loop μ-loop
 loop-holds c = search needs
@@ -65,6 +68,9 @@ obey-requires c κs = search needs
 obey-requires-2 : tie.Need-obey-requires-2 Inv-loop μ-loop
 obey-requires-2 c κs = search needs
 
+obey-requires-3 : tie.Need-obey-requires-3 Inv-loop μ-loop
+obey-requires-3 c κs = search needs
+
 end-requires : tie.Need-end-requires Inv-loop μ-loop
 end-requires c κs = search needs
 
@@ -92,6 +98,7 @@ run-spec =
     large-buffer-requires
     new-requires
     fresh-requires
+    local-requires
     loop-holds
     slice-aggregate-cut
     slice-aggregate-cut-2
@@ -106,6 +113,7 @@ run-spec =
     judge-requires
     obey-requires
     obey-requires-2
+    obey-requires-3
     end-requires
     add-number
     loop-less
