@@ -1,6 +1,7 @@
 -- A link or ask command orders just that, and every other command nothing. Assumes nothing.
 use mathlib.Core.Path.{_≡_, refl, ap, ap₂, _∙_}
 use mathlib.Core.Bool.{Bool, true, false, cond}
+use mathlib.Core.List.{[], _∷_, _++_}
 use Prim.Native.Nat.{ℕ}
 use lib.Dec.{eqb}
 use borrow.Author.Tests.{eqb-true}
@@ -12,8 +13,14 @@ use Rattle.commands.specs.declared.Named.{Named}
 use Rattle.commands.specs.declared.Named.the-variants.{Is, Nobody}
 use Rattle.commands.specs.declared.Order.{Order}
 use Rattle.commands.specs.declared.Order.the-variants.{Nothing, Pass, Pair, Link, Ask}
-use Rattle.commands.specs.Commands.{Command, pro1, pro2, pro3, named, asking, linking, ordered}
-use Rattle.commands.specs.Commands.{linkCommand, askCommand, SpelledFor, SmallOrder}
+use Rattle.commands.specs.Commands.{Command, pro1, pro2, pro3, spelled, beginning, lastOf}
+use Rattle.commands.specs.Commands.{named, asking, linking, ordered, linkCommand, askCommand, SpelledFor, SmallOrder}
+
+-- a command in two: all its values but the last, and the last
+pub in-two : (c : Command) → spelled c ≡ beginning c ++ (lastOf c ∷ [])
+in-two (pro1 x) = refl
+in-two (pro2 x y) = refl
+in-two (pro3 x y z) = refl
 
 -- ---- what is known is ordered
 

@@ -44,11 +44,6 @@ over (pro2 x y) = refl
 over (pro3 x y z) = refl
 
 -- the last ends the sequence, with the command's order
-pub in-two : (c : Command) → spelled c ≡ beginning c ++ (lastOf c ∷ [])
-in-two (pro1 x) = refl
-in-two (pro2 x y) = refl
-in-two (pro3 x y z) = refl
-
 pub ends : (c : Command) → heard (leftAfter Free (beginning c)) (lastOf c) ≡ does (ordered c)
 unfolding heard
 ends (pro1 x) = refl

@@ -2,7 +2,7 @@
 // unfinished from modem or socket, in which that one says the values vs and anything else may be called in between.
 ghost use mathlib.Core.Path.{_≡_};
 ghost use mathlib.Core.Bool.{Bool, cond, _&&_, not};
-ghost use mathlib.Core.List.{List};
+ghost use mathlib.Core.List.{List, [], _∷_, _++_};
 ghost use Prim.Native.Nat.{ℕ, _+_, _/_, _%_, _<_};
 ghost use lib.ListN.{length, getD, take};
 ghost use Rattle.wiring.specs.declared.Module.{Module};
@@ -23,8 +23,9 @@ ghost use Rattle.links.specs.States.{nameOf, unfinished};
 ghost use Rattle.links.specs.Runs.{Call, value, obey, run, Says, Swallowed, Answered};
 
 // PRO3 with 6/1 or 6/0, a receiver and a sender orders that link set or cleared, PRO2 with 6/2 and a receiver asks for
-// its status, and no other command orders anything.
+// its status, and no other command orders anything. (A command is its beginning and its last code.)
 pub fn a_command_is_known_by_its_codes()
+    ensures whole { λ _. ⌜ ((c : Command) → spelled c ≡ beginning c ++ (lastOf c ∷ [])) ⌝ }
     ensures link { λ _. ⌜ ((receiver sender : Module) (on : Bool)
         → ordered (linkCommand receiver sender on) ≡ Link receiver sender on) ⌝ }
     ensures ask { λ _. ⌜ ((receiver : Module) → ordered (askCommand receiver) ≡ Ask receiver) ⌝ }

@@ -8,7 +8,7 @@
 ghost use mathlib.Core.Path.{_≡_};
 ghost use Rattle.sending.specs.Sending.{silence};
 ghost use Rattle.links.specs.States.{localLinks, connectedLinks, inRange};
-ghost use Rattle.links.specs.Calls.{giving, choosing, withLocal, withConnected};
+ghost use Rattle.links.specs.Calls.{giving, unlessRefused, choosing, withLocal, withConnected};
 ghost use Rattle.links.specs.Calls.{taking, fromEar, fromKeyboard, fromModem, fromSocket};
 
 mod ears;
@@ -94,6 +94,7 @@ impl Links {
         false
     }
 
+    // This table; what is unfinished stays.
     fn choose(self, table: Table) -> Outcome
         ensures { λ r. ⌜ r ≡ choosing self table ⌝ }
     {
@@ -110,7 +111,7 @@ impl Links {
         silent(self, Answer::Broken)
     }
 
-    // The host chooses the local table; what is unfinished stays.
+    // The host chooses the local table.
     pub fn with_local(self) -> Outcome
         ensures { λ r. ⌜ r ≡ withLocal self ⌝ }
     {
@@ -124,23 +125,31 @@ impl Links {
         self.choose(wiring::connected_table())
     }
 
-    // A key is passed on, never heard for commands and never held.
-    pub fn from_keyboard(self, value: u8) -> Outcome
-        ensures { λ r. ⌜ r ≡ fromKeyboard self value ⌝ }
+    // Refused where the state is broken or the value above 127; else what comes of it.
+    fn unless_refused(self, value: u8, outcome: Outcome) -> Outcome
+        ensures { λ r. ⌜ r ≡ unlessRefused self value outcome ⌝ }
     {
         if self.in_range() {
             if 127 < value {
                 return silent(self, Answer::TooLarge);
             }
-            let done = sending::obey(self.table, Module::Keyboard, Order::Pass(value));
-            let sent = done.sent;
-            return Outcome {
-                next: self,
-                answer: Answer::Taken,
-                sent,
-            };
+            return outcome;
         }
         silent(self, Answer::Broken)
+    }
+
+    // A key is passed on, never heard for commands and never held.
+    pub fn from_keyboard(self, value: u8) -> Outcome
+        ensures { λ r. ⌜ r ≡ fromKeyboard self value ⌝ }
+    {
+        let done = sending::obey(self.table, Module::Keyboard, Order::Pass(value));
+        let sent = done.sent;
+        let outcome = Outcome {
+            next: self,
+            answer: Answer::Taken,
+            sent,
+        };
+        self.unless_refused(value, outcome)
     }
 
     // What was heard from an ear: its own sequence follows, and its order is obeyed.
@@ -158,16 +167,12 @@ impl Links {
         }
     }
 
+    // A value from an ear.
     fn hear(self, ear: Ear, value: u8) -> Outcome
         ensures { λ r. ⌜ r ≡ fromEar self ear value ⌝ }
     {
-        if self.in_range() {
-            if 127 < value {
-                return silent(self, Answer::TooLarge);
-            }
-            return self.take(ear, hearing::hear(self.unfinished(ear), value));
-        }
-        silent(self, Answer::Broken)
+        let outcome = self.take(ear, hearing::hear(self.unfinished(ear), value));
+        self.unless_refused(value, outcome)
     }
 
     // A value that the receiver passes on from the line.

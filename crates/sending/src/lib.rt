@@ -33,6 +33,7 @@ pub struct Obeyed {
     pub sent: Sent,
 }
 
+// No bytes.
 fn none() -> Bytes
     ensures { λ r. ⌜ r ≡ packed [] ⌝ }
 {
@@ -42,6 +43,7 @@ fn none() -> Bytes
     }
 }
 
+// The reply about a receiver.
 fn told(table: Table, receiver: Module) -> Bytes
     ensures { λ r. ⌜ r ≡ packed (replyOf table receiver) ⌝ }
 {
@@ -74,6 +76,7 @@ fn codes(table: Table, order: Order) -> Bytes
     }
 }
 
+// No receiver.
 fn nowhere() -> Row
     ensures { λ r. ⌜ r ≡ nowhereMarked ⌝ }
 {
@@ -85,6 +88,7 @@ fn nowhere() -> Row
     }
 }
 
+// One receiver alone.
 fn only(m: Module) -> Row
     ensures { λ r. ⌜ r ≡ onlyTo m ⌝ }
 {
@@ -117,6 +121,7 @@ fn receivers(table: Table, from: Module, order: Order) -> Row
     }
 }
 
+// What a receiver gets, marked or not.
 fn given(marked: bool, bytes: Bytes) -> Bytes
     ensures { λ r. ⌜ r ≡ cond marked bytes (packed []) ⌝ }
 {
