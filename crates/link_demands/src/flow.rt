@@ -2,15 +2,19 @@
 // `Says e l cs vs` is a run from a state in range with nothing unfinished from modem or socket, in which that one says
 // the values vs and anything else may be called in between.
 ghost use mathlib.Core.Path.{_≡_};
-ghost use mathlib.Core.List.{List, [], _∷_, map};
+ghost use mathlib.Core.List.{List, [], _∷_, _++_, map};
 ghost use Prim.Native.Nat.{ℕ, _<_};
 ghost use Rattle.values.specs.Large.{Values};
+ghost use Rattle.wiring.specs.declared.Module.{Module};
 ghost use Rattle.wiring.specs.declared.Module.the-variants.{Keyboard};
+ghost use Rattle.hearing.specs.declared.Unfinished.{Unfinished};
 ghost use Rattle.hearing.specs.declared.Unfinished.the-variants.{Free};
+ghost use Rattle.hearing.specs.Hearing.{codesOf};
+ghost use Rattle.hearing.specs.Phrases.{Phrase, AllProper, allValues, allFlowing, Phrased};
 ghost use Rattle.links.specs.declared.Links.{Links};
 ghost use Rattle.links.specs.declared.Ear.{Ear};
 ghost use Rattle.links.specs.States.{localLinks, nameOf, unfinished};
-ghost use Rattle.links.specs.Runs.{Call, key, value, obey, run};
+ghost use Rattle.links.specs.Runs.{Call, key, value, obey, run, gotFrom, Throughout};
 ghost use Rattle.links.specs.Runs.{InRange, Says, PassedOn, freed, Swallowed};
 
 // A value other than ESC from modem or socket with nothing unfinished, and any value from the keyboard, reaches just
@@ -34,4 +38,13 @@ pub fn esc_goes_with_its_next_code()
         → (v ≡ 57 → ⊥) → (v ≡ 58 → ⊥) → (v ≡ 59 → ⊥)
         → PassedOn (run l cs) (value e v) (nameOf e) (27 ∷ v ∷ []) (freed (run l cs) e)) ⌝ }
     ensures met { λ _. ⌜ ((e : Ear) (vs : List ℕ) → Values vs → Says e localLinks (map (value e) vs) vs) ⌝ }
+{}
+
+// Of what modem or socket says in a run, phrase by phrase, a module that it is linked to at each call gets, through it,
+// all but the commands, in order and complete. Whatever is said is phrases, and then the beginning of one.
+pub fn all_but_the_commands_comes_through()
+    ensures { λ _. ⌜ ((e : Ear) (l : Links) (cs : List Call) (m : Module) (ps : List Phrase) (u : Unfinished)
+        → Says e l cs (allValues ps ++ codesOf u) → AllProper ps → Throughout (nameOf e) m l cs
+        → gotFrom e m l cs ≡ allFlowing ps) ⌝ }
+    ensures phrased { λ _. ⌜ ((vs : List ℕ) → Phrased vs) ⌝ }
 {}

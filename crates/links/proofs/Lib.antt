@@ -6,3 +6,4 @@ pub mod Own
 pub mod Flow
 pub mod Replying
 pub mod Choosing
+pub mod Through

@@ -50,7 +50,7 @@ unfolding choosing
 left-by-choice modem l t = chosen (λ (o : Outcome). o .next .modem ≡ l .modem) (inRange l) (λ i. refl) (λ i. refl)
 left-by-choice socket l t = chosen (λ (o : Outcome). o .next .socket ≡ l .socket) (inRange l) (λ i. refl) (λ i. refl)
 
-own-call : (c : Call) (l : Links) (e : Ear) → InRange l
+pub own-call : (c : Call) (l : Links) (e : Ear) → InRange l
     → unfinished (obey c l .next) e ≡ leftAfter (unfinished l e) (saidAt e c)
 own-call (key v) l e r = ap (λ (s : Links). unfinished s e) (keys-change-nothing l v)
 own-call (value f v) l e r = took e f l v (passed l r) (ltb 127 v) refl

@@ -55,6 +55,13 @@ abbrev pub run : Links → List Call → Links
 run l [] = l
 run l (c ∷ cs) = run (obey c l .next) cs
 
+-- whether a call is an ear's
+abbrev pub isFrom : Ear → Call → Bool
+isFrom e (key v) = false
+isFrom e (value f v) = sameEar e f
+isFrom e toLocal = false
+isFrom e toConnected = false
+
 -- what an ear says in a run: its values of 0 to 127, for any other is refused
 abbrev pub saidAt : Ear → Call → List ℕ
 saidAt e (key v) = []
@@ -65,6 +72,17 @@ saidAt e toConnected = []
 abbrev pub said : Ear → List Call → List ℕ
 said e [] = []
 said e (c ∷ cs) = saidAt e c ++ said e cs
+
+-- what a module gets in a run through the calls of an ear
+abbrev pub gotFrom : Ear → Module → Links → List Call → List ℕ
+gotFrom e receiver l [] = []
+gotFrom e receiver l (c ∷ cs) = cond (isFrom e c) (given l c receiver) [] ++ gotFrom e receiver (obey c l .next) cs
+
+-- a sender is linked to a receiver at each call of a run
+abbrev pub Throughout : Module → Module → Links → List Call → Type 0
+Throughout sender receiver l [] = Unit {0}
+Throughout sender receiver l (c ∷ cs) =
+    (reaches (l .table) sender receiver ≡ true) × Throughout sender receiver (obey c l .next) cs
 
 -- ---- ranges and numbers
 

@@ -2,7 +2,7 @@
 use mathlib.Core.Path.{_≡_, refl, ap, _∙_}
 use mathlib.Core.Bool.{Bool, true, false, cond, _&&_, _||_, not}
 use lib.Dec.{T}
-use Rattle.laws.proofs.Computed.{and-left, and-right, fails}
+use Rattle.laws.proofs.Computed.{and-left, and-right, holds, fails}
 use Rattle.wiring.specs.declared.Module.{Module}
 use Rattle.wiring.specs.declared.Module.the-variants.{Screen, Keyboard, Modem, Socket}
 use Rattle.wiring.specs.declared.Table.{Table}
@@ -40,6 +40,25 @@ never r s m =
 pub self-kept : (t : Table) (r s m : Module) (on : Bool) → reaches (linked t r s on) m m ≡ reaches t m m
 self-kept t r s m on =
     linked-pairs t r s m m on ∙ ap (λ (b : Bool). cond b on (reaches t m m)) (never r s m)
+
+-- a module that is reached is another one
+pub reached-apart : (t : Table) (m r : Module) → reaches t m m ≡ false → reaches t m r ≡ true → same r m ≡ false
+reached-apart t Screen Screen n y = absurd (fails n (holds y))
+reached-apart t Screen Keyboard n y = refl
+reached-apart t Screen Modem n y = refl
+reached-apart t Screen Socket n y = refl
+reached-apart t Keyboard Screen n y = refl
+reached-apart t Keyboard Keyboard n y = absurd (fails n (holds y))
+reached-apart t Keyboard Modem n y = refl
+reached-apart t Keyboard Socket n y = refl
+reached-apart t Modem Screen n y = refl
+reached-apart t Modem Keyboard n y = refl
+reached-apart t Modem Modem n y = absurd (fails n (holds y))
+reached-apart t Modem Socket n y = refl
+reached-apart t Socket Screen n y = refl
+reached-apart t Socket Keyboard n y = refl
+reached-apart t Socket Modem n y = refl
+reached-apart t Socket Socket n y = absurd (fails n (holds y))
 
 -- ---- the test
 
