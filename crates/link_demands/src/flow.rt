@@ -6,13 +6,14 @@ ghost use mathlib.Core.List.{List, [], _∷_, _++_, map};
 ghost use Prim.Native.Nat.{ℕ, _<_};
 ghost use Rattle.values.specs.Large.{Values};
 ghost use Rattle.wiring.specs.declared.Module.{Module};
-ghost use Rattle.wiring.specs.declared.Module.the-variants.{Keyboard};
+ghost use Rattle.wiring.specs.declared.Module.the-variants.{Screen, Keyboard};
 ghost use Rattle.hearing.specs.declared.Unfinished.{Unfinished};
 ghost use Rattle.hearing.specs.declared.Unfinished.the-variants.{Free};
 ghost use Rattle.hearing.specs.Hearing.{codesOf};
-ghost use Rattle.hearing.specs.Phrases.{Phrase, AllProper, allValues, allFlowing, Phrased};
+ghost use Rattle.hearing.specs.Phrases.{Phrase, alone, AllProper, allValues, allFlowing, Phrased};
 ghost use Rattle.links.specs.declared.Links.{Links};
 ghost use Rattle.links.specs.declared.Ear.{Ear};
+ghost use Rattle.links.specs.declared.Ear.the-variants.{Modem as EarModem};
 ghost use Rattle.links.specs.States.{localLinks, nameOf, unfinished};
 ghost use Rattle.links.specs.Runs.{Call, key, value, obey, run, gotFrom, Throughout};
 ghost use Rattle.links.specs.Runs.{InRange, Says, PassedOn, freed, Swallowed};
@@ -41,10 +42,13 @@ pub fn esc_goes_with_its_next_code()
 {}
 
 // Of what modem or socket says in a run, phrase by phrase, a module that it is linked to at each call gets, through it,
-// all but the commands, in order and complete. Whatever is said is phrases, and then the beginning of one.
+// all but the commands, in order and complete. Whatever is said is phrases, and then the beginning of one; and while
+// the modem says values by themselves, it stays linked to the screen.
 pub fn all_but_the_commands_comes_through()
     ensures { λ _. ⌜ ((e : Ear) (l : Links) (cs : List Call) (m : Module) (ps : List Phrase) (u : Unfinished)
         → Says e l cs (allValues ps ++ codesOf u) → AllProper ps → Throughout (nameOf e) m l cs
         → gotFrom e m l cs ≡ allFlowing ps) ⌝ }
     ensures phrased { λ _. ⌜ ((vs : List ℕ) → Phrased vs) ⌝ }
+    ensures met { λ _. ⌜ ((vs : List ℕ) → Values vs → AllProper (map alone vs)
+        → Throughout (nameOf EarModem) Screen localLinks (map (value EarModem) vs)) ⌝ }
 {}

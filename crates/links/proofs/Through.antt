@@ -1,10 +1,13 @@
 -- What a module that an ear is linked to throughout a run gets of what that ear says. Assumes nothing.
-use mathlib.Core.Path.{_≡_, refl, sym, ap, _∙_}
+use mathlib.Core.Path.{_≡_, refl, sym, ap, _∙_, subst⁻¹}
 use mathlib.Core.Bool.{Bool, true, false, cond}
-use mathlib.Core.List.{List, [], _∷_, _++_, append-nil}
+use mathlib.Core.List.{List, [], _∷_, _++_, map, append-nil}
 use Prim.Native.Nat.{ℕ}
 use lib.Dec.{ltb}
+use Rattle.values.specs.Large.{Values}
+use Rattle.values.proofs.Found.{values-head, values-tail}
 use Rattle.wiring.specs.declared.Module.{Module}
+use Rattle.wiring.specs.declared.Module.the-variants.{Screen}
 use Rattle.wiring.specs.declared.Table.{Table}
 use Rattle.wiring.specs.Modules.{same}
 use Rattle.wiring.specs.Tables.{reaches}
@@ -13,7 +16,7 @@ use Rattle.commands.specs.declared.Order.{Order}
 use Rattle.commands.specs.declared.Order.the-variants.{Nothing, Pass, Pair, Link, Ask}
 use Rattle.hearing.specs.declared.Unfinished.{Unfinished}
 use Rattle.hearing.specs.Hearing.{codesOf, heard}
-use Rattle.hearing.specs.Phrases.{Phrase, AllProper, allValues, allFlowing}
+use Rattle.hearing.specs.Phrases.{Phrase, alone, AllProper, allValues, allFlowing}
 use Rattle.hearing.proofs.Flowing.{passed as passedOn, flow, flow-append, flows-on}
 use Rattle.replies.specs.Replies.{replyOf}
 use Rattle.sending.specs.declared.Sent.{Sent}
@@ -23,13 +26,14 @@ use Rattle.links.specs.declared.Links.{Links}
 use Rattle.links.specs.declared.Ear.{Ear}
 use Rattle.links.specs.declared.Ear.the-variants.{Modem as modem, Socket as socket}
 use Rattle.links.specs.declared.Outcome.{Outcome}
-use Rattle.links.specs.States.{nameOf, unfinished}
+use Rattle.links.specs.States.{localLinks, nameOf, unfinished}
 use Rattle.links.specs.Runs.{Call, key, value, toLocal, toConnected, obey, given, isFrom, saidAt, said, gotFrom}
 use Rattle.links.specs.Runs.{Throughout, InRange, Says}
 use Rattle.links.proofs.Steps.{accepted, sent-heard}
-use Rattle.links.proofs.Ranges.{passed, kept}
+use Rattle.links.proofs.Ranges.{passed, kept, local-in}
 use Rattle.links.proofs.Refusals.{large, small}
 use Rattle.links.proofs.Own.{own-call}
+use Rattle.links.proofs.Flow.{plain-goes}
 
 -- another module that is linked gets what an order passes on
 gets-passed : (t : Table) (from : Module) (o : Order) (r : Module) → reaches t from r ≡ true → same r from ≡ false
@@ -86,3 +90,15 @@ comes-through e l cs m ps u s n y =
     ∙ ap (λ (v : Unfinished). flow v (said e cs)) (s .free)
     ∙ ap (flow _) (s .values)
     ∙ flows-on ps u n
+
+-- ---- such runs: values by themselves leave the table as it is
+
+pub stays-linked : (vs : List ℕ) → Values vs → AllProper (map alone vs)
+    → Throughout (nameOf modem) Screen localLinks (map (value modem) vs)
+stays-linked [] h n = tt
+stays-linked (v ∷ vs) h n = (
+  refl,
+  subst⁻¹ (λ (l : Links). Throughout (nameOf modem) Screen l (map (value modem) vs))
+      (plain-goes localLinks modem v local-in refl (values-head v vs h) (n .0) .state)
+      (stays-linked vs (values-tail v vs h) (n .1)),
+)
