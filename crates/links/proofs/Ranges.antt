@@ -15,7 +15,7 @@ use Rattle.wiring.proofs.Selves.{local-none, connected-none}
 use Rattle.hearing.specs.declared.Unfinished.{Unfinished}
 use Rattle.hearing.specs.Hearing.{codesOf, inRange as sequenceInRange, heard}
 use Rattle.hearing.proofs.Ranges.{tested as codes-tested, passed as codes-passed, kept as codes-kept}
-use Rattle.sending.proofs.Getting.{none-itself-after}
+use Rattle.sending.proofs.Getting.{still-none-itself}
 use Rattle.links.specs.declared.Links.{Links}
 use Rattle.links.specs.declared.Ear.{Ear}
 use Rattle.links.specs.declared.Ear.the-variants.{Modem as modem, Socket as socket}
@@ -78,7 +78,7 @@ heard-kept : (l : Links) (e : Ear) (v : ℕ) → InRange l → v ≤ 127 → InR
 unfolding taking
 heard-kept l modem v r h =
     record {
-      none-itself = none-itself-after (l .table) (nameOf modem) (heard (l .modem) v .order) (r .none-itself);
+      none-itself = still-none-itself (l .table) (nameOf modem) (heard (l .modem) v .order) (r .none-itself);
       small = small;
     }
   where
@@ -87,7 +87,7 @@ heard-kept l modem v r h =
     small socket = r .small socket
 heard-kept l socket v r h =
     record {
-      none-itself = none-itself-after (l .table) (nameOf socket) (heard (l .socket) v .order) (r .none-itself);
+      none-itself = still-none-itself (l .table) (nameOf socket) (heard (l .socket) v .order) (r .none-itself);
       small = small;
     }
   where

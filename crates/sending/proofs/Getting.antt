@@ -14,17 +14,18 @@ use Rattle.wiring.specs.declared.Module.the-variants.{Screen, Keyboard, Modem, 
 use Rattle.wiring.specs.declared.Row.{Row}
 use Rattle.wiring.specs.declared.Table.{Table}
 use Rattle.wiring.specs.Modules.{same}
-use Rattle.wiring.specs.Tables.{marked, reaches, linked, NoneItself}
-use Rattle.wiring.proofs.Pairs.{linked-pairs}
-use Rattle.wiring.proofs.Selves.{self-kept}
+use Rattle.wiring.specs.Tables.{marked, reaches, NoneItself}
 use Rattle.replies.specs.Replies.{replyOf}
 use Rattle.replies.proofs.Statuses.{reply-length, reply-small}
 use Rattle.commands.specs.declared.Order.{Order}
 use Rattle.commands.specs.declared.Order.the-variants.{Nothing, Pass, Pair, Link, Ask}
 use Rattle.commands.specs.Commands.{SmallOrder}
+use Rattle.linking.specs.Linking.{linked, tableAfter}
+use Rattle.linking.proofs.Pairs.{linked-pairs}
+use Rattle.linking.proofs.Selves.{none-itself-after}
 use Rattle.sending.specs.declared.Bytes.{Bytes}
 use Rattle.sending.specs.Sending.{packed, bytesOf, to, nowhere, silence, onlyTo, receiversFor, bytesFor, sentFor}
-use Rattle.sending.specs.Sending.{tableAfter, obeyed}
+use Rattle.sending.specs.Sending.{obeyed}
 use Rattle.sending.specs.Sending.{partOf, gets, FewIn}
 
 -- ---- who gets it
@@ -118,13 +119,9 @@ pub pairs-after : (t : Table) (from receiver sender : Module) (on : Bool) (a b :
 unfolding obeyed
 pairs-after t from receiver sender on a b = linked-pairs t receiver sender a b on
 
-pub none-itself-after : (t : Table) (from : Module) (o : Order) → NoneItself t → NoneItself (obeyed t from o .table)
+pub still-none-itself : (t : Table) (from : Module) (o : Order) → NoneItself t → NoneItself (obeyed t from o .table)
 unfolding obeyed
-none-itself-after t from Nothing n = n
-none-itself-after t from (Pass v) n = n
-none-itself-after t from (Pair v) n = n
-none-itself-after t from (Link receiver sender on) n = λ m. self-kept t receiver sender m on ∙ n m
-none-itself-after t from (Ask receiver) n = n
+still-none-itself t from o n = none-itself-after t o n
 
 -- ---- how much
 

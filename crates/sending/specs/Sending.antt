@@ -9,10 +9,11 @@ use Rattle.wiring.specs.declared.Module.{Module}
 use Rattle.wiring.specs.declared.Module.the-variants.{Screen, Keyboard, Modem, Socket}
 use Rattle.wiring.specs.declared.Row.{Row}
 use Rattle.wiring.specs.declared.Table.{Table}
-use Rattle.wiring.specs.Tables.{row, rowOf, linked}
+use Rattle.wiring.specs.Tables.{row, rowOf}
 use Rattle.replies.specs.Replies.{replyOf}
 use Rattle.commands.specs.declared.Order.{Order}
 use Rattle.commands.specs.declared.Order.the-variants.{Nothing, Pass, Pair, Link, Ask}
+use Rattle.linking.specs.Linking.{tableAfter}
 use Rattle.sending.specs.declared.Bytes.{Bytes}
 use Rattle.sending.specs.declared.Sent.{Sent}
 use Rattle.sending.specs.declared.Obeyed.{Obeyed}
@@ -66,14 +67,6 @@ bytesFor t (Ask receiver) = replyOf t receiver
 
 abbrev pub sentFor : Table → Module → Order → Sent
 sentFor t from o = to (receiversFor t from o) (packed (bytesFor t o))
-
--- only a link command changes the table
-abbrev pub tableAfter : Table → Order → Table
-tableAfter t Nothing = t
-tableAfter t (Pass v) = t
-tableAfter t (Pair v) = t
-tableAfter t (Link receiver sender on) = linked t receiver sender on
-tableAfter t (Ask receiver) = t
 
 -- what is sent goes by the table after the order, and tells it
 unfoldable pub obeyed : Table → Module → Order → Obeyed

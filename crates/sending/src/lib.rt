@@ -7,7 +7,7 @@ ghost use mathlib.Core.Bool.{cond};
 ghost use mathlib.Core.List.{[]};
 ghost use Rattle.replies.specs.Replies.{replyOf};
 ghost use Rattle.sending.specs.Sending.{packed, to as toThose, nowhere as nowhereMarked, silence as silenceSent};
-ghost use Rattle.sending.specs.Sending.{onlyTo, receiversFor, bytesFor, tableAfter, obeyed};
+ghost use Rattle.sending.specs.Sending.{onlyTo, receiversFor, bytesFor, obeyed};
 use commands::Order;
 use wiring::Module;
 use wiring::Row;
@@ -151,28 +151,11 @@ pub fn silence() -> Sent
     to(nowhere(), none())
 }
 
-// The table after an order.
-fn relink(table: Table, order: Order) -> Table
-    ensures { λ r. ⌜ r ≡ tableAfter table order ⌝ }
-{
-    match order {
-        Order::Nothing => table,
-        Order::Pass(_) => table,
-        Order::Pair(_) => table,
-        Order::Link {
-            receiver,
-            sender,
-            on,
-        } => table.linked(receiver, sender, on),
-        Order::Ask(_) => table,
-    }
-}
-
 // An order from a module: a reply tells the table after it.
 pub fn obey(table: Table, from: Module, order: Order) -> Obeyed
     ensures { λ r. ⌜ r ≡ obeyed table from order ⌝ }
 {
-    let after = relink(table, order);
+    let after = linking::relink(table, order);
     let bytes = codes(after, order);
     let sent = to(receivers(after, from, order), bytes);
     Obeyed { table: after, sent }

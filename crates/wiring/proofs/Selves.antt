@@ -1,45 +1,12 @@
--- No module is linked to itself: how that is tested, where it holds, and that no command changes it. Assumes nothing.
-use mathlib.Core.Path.{_≡_, refl, ap, _∙_}
-use mathlib.Core.Bool.{Bool, true, false, cond, _&&_, _||_, not}
-use lib.Dec.{T}
-use Rattle.laws.proofs.Computed.{and-left, and-right, holds, fails}
+-- No module is linked to itself: how that is tested, and where it holds. Assumes nothing.
+use mathlib.Core.Path.{_≡_, refl}
+use mathlib.Core.Bool.{Bool, true, false, _||_}
+use Rattle.laws.proofs.Computed.{holds, fails}
 use Rattle.wiring.specs.declared.Module.{Module}
 use Rattle.wiring.specs.declared.Module.the-variants.{Screen, Keyboard, Modem, Socket}
 use Rattle.wiring.specs.declared.Table.{Table}
 use Rattle.wiring.specs.Modules.{same}
-use Rattle.wiring.specs.Tables.{reaches, linked, selfLinked, NoneItself, localTable, connectedTable}
-use Rattle.wiring.proofs.Pairs.{linked-pairs}
-
--- ---- a test computed at every module
-
-everyModule : (Module → Bool) → Bool
-everyModule f = f Screen && (f Keyboard && (f Modem && f Socket))
-
-each : (f : Module → Bool) → T (everyModule f) → (m : Module) → T (f m)
-unfolding everyModule
-each f t Screen = and-left (f Screen) _ t
-each f t Keyboard = and-left (f Keyboard) _ (and-right (f Screen) _ t)
-each f t Modem = and-left (f Modem) _ (and-right (f Keyboard) _ (and-right (f Screen) _ t))
-each f t Socket = and-right (f Modem) _ (and-right (f Keyboard) _ (and-right (f Screen) _ t))
-
--- of a module's pair with itself it is never so that two modules are named and it is the pair
-another : Module → Module → Module → Bool
-another r s m = not (not (same r s) && (same m s && same m r))
-
-never : (r s m : Module) → (not (same r s) && (same m s && same m r)) ≡ false
-unfolding everyModule another
-never r s m =
-    was (not (same r s) && (same m s && same m r))
-    (each (another r s)
-    (each (λ t. everyModule (another r t)) (each (λ q. everyModule (λ t. everyModule (another q t))) tt r) s) m)
-  where
-    was : (t : Bool) → T (not t) → t ≡ false
-    was true e = absurd e
-    was false e = refl
-
-pub self-kept : (t : Table) (r s m : Module) (on : Bool) → reaches (linked t r s on) m m ≡ reaches t m m
-self-kept t r s m on =
-    linked-pairs t r s m m on ∙ ap (λ (b : Bool). cond b on (reaches t m m)) (never r s m)
+use Rattle.wiring.specs.Tables.{reaches, selfLinked, NoneItself, localTable, connectedTable}
 
 -- a module that is reached is another one
 pub reached-apart : (t : Table) (m r : Module) → reaches t m m ≡ false → reaches t m r ≡ true → same r m ≡ false

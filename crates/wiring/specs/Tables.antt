@@ -1,7 +1,7 @@
 -- "A table says for each pair whether the sender's bytes reach the receiver." (01, "Links and commands"). Assumes
 -- nothing.
 use mathlib.Core.Path.{_≡_}
-use mathlib.Core.Bool.{Bool, false, cond, _&&_, _||_}
+use mathlib.Core.Bool.{Bool, false, _&&_, _||_}
 use mathlib.Core.List.{List, [], _∷_}
 use Rattle.wiring.specs.declared.Module.{Module}
 use Rattle.wiring.specs.declared.Module.the-variants.{Screen, Keyboard, Modem, Socket}
@@ -66,28 +66,7 @@ localTable = tableOf localPairs
 abbrev pub connectedTable : Table
 connectedTable = tableOf connectedPairs
 
--- ---- a link set or cleared
-
--- the row with one receiver set or cleared
-abbrev pub marking : Row → Module → Bool → Row
-marking w Screen on = row on (w .keyboard) (w .modem) (w .socket)
-marking w Keyboard on = row (w .screen) on (w .modem) (w .socket)
-marking w Modem on = row (w .screen) (w .keyboard) on (w .socket)
-marking w Socket on = row (w .screen) (w .keyboard) (w .modem) on
-
--- the table with one sender's row replaced
-abbrev pub withRow : Table → Module → Row → Table
-withRow t Screen w = record { screen = w; keyboard = t .keyboard; modem = t .modem; socket = t .socket }
-withRow t Keyboard w = record { screen = t .screen; keyboard = w; modem = t .modem; socket = t .socket }
-withRow t Modem w = record { screen = t .screen; keyboard = t .keyboard; modem = w; socket = t .socket }
-withRow t Socket w = record { screen = t .screen; keyboard = t .keyboard; modem = t .modem; socket = w }
-
-abbrev pub relinked : Table → Module → Module → Bool → Table
-relinked t receiver sender on = withRow t sender (marking (rowOf t sender) receiver on)
-
--- "sets or clears a link"; "A module is never linked to itself; such a command answers with the status unchanged"
-unfoldable pub linked : Table → Module → Module → Bool → Table
-linked t receiver sender on = cond (same receiver sender) t (relinked t receiver sender on)
+-- ---- a module and itself
 
 -- "or links a module to itself"
 unfoldable pub selfLinked : Table → Bool

@@ -1,11 +1,10 @@
 // The four modules, and the table of which sender's bytes reach which receiver (01, "Links and commands"; 001, part 2,
 // sections 1-2-1 and 1-2-2).
 //
-// specs/Modules and specs/Tables say what a table is and what the two standard tables link; proofs/ shows what setting
-// or clearing a link does to each pair.
+// specs/Modules and specs/Tables say what a table is and what the two standard tables link; proofs/ shows what the test
+// for a module linked to itself says.
 ghost use mathlib.Core.Path.{_≡_};
-ghost use Rattle.wiring.specs.Modules.{placeOf, same as sameAs};
-ghost use Rattle.wiring.specs.Tables.{localTable, connectedTable, rowOf, marking, withRow, linked, selfLinked};
+ghost use Rattle.wiring.specs.Tables.{localTable, connectedTable, rowOf, selfLinked};
 
 pub enum Module {
     Screen,
@@ -28,24 +27,6 @@ pub struct Table {
     pub keyboard: Row,
     pub modem: Row,
     pub socket: Row,
-}
-
-// Its place in the page's order.
-fn place(m: Module) -> u8
-    ensures { λ r. ⌜ r ≡ placeOf m ⌝ }
-{
-    match m {
-        Module::Screen => 0,
-        Module::Keyboard => 1,
-        Module::Modem => 2,
-        Module::Socket => 3,
-    }
-}
-
-fn same(a: Module, b: Module) -> bool
-    ensures { λ r. ⌜ r ≡ sameAs a b ⌝ }
-{
-    place(a) == place(b)
 }
 
 // While the modem is not connected: keyboard to modem and socket, modem and socket to screen.
@@ -108,22 +89,6 @@ pub fn connected_table() -> Table
     }
 }
 
-impl Row {
-    // With one receiver set or cleared.
-    fn with(self, receiver: Module, on: bool) -> Row
-        ensures { λ r. ⌜ r ≡ marking self receiver on ⌝ }
-    {
-        let mut row = self;
-        match receiver {
-            Module::Screen => row.screen = on,
-            Module::Keyboard => row.keyboard = on,
-            Module::Modem => row.modem = on,
-            Module::Socket => row.socket = on,
-        }
-        row
-    }
-}
-
 impl Table {
     // The receivers that a sender reaches.
     pub fn row(self, sender: Module) -> Row
@@ -135,32 +100,6 @@ impl Table {
             Module::Modem => self.modem,
             Module::Socket => self.socket,
         }
-    }
-
-    // With one sender's row replaced.
-    fn with_row(self, sender: Module, row: Row) -> Table
-        ensures { λ r. ⌜ r ≡ withRow self sender row ⌝ }
-    {
-        let mut table = self;
-        match sender {
-            Module::Screen => table.screen = row,
-            Module::Keyboard => table.keyboard = row,
-            Module::Modem => table.modem = row,
-            Module::Socket => table.socket = row,
-        }
-        table
-    }
-
-    // With a link set or cleared; a module is never linked to itself.
-    pub fn linked(self, receiver: Module, sender: Module, on: bool) -> Table
-        ensures { λ r. ⌜ r ≡ linked self receiver sender on ⌝ }
-    {
-        let row = self.row(sender);
-        let changed = self.with_row(sender, row.with(receiver, on));
-        if same(receiver, sender) {
-            return self;
-        }
-        changed
     }
 
     // Whether a module is linked to itself.

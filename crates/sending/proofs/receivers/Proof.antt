@@ -40,7 +40,8 @@ returns-4 : tie.Need-returns-4
 returns-4 c = simp (c .enum-told4 .given .1, c .before .before .only .ensures)
 
 returns-5 : tie.Need-returns-5
-returns-5 c = simp (c .enum-told5 .given .1, c .before .before .only .ensures)
+returns-5 c =
+    simp (c .enum-told5 .given .1, c .before .before .only .ensures, c .before .before .before .row .ensures)
 
 pub receivers-spec : {M : Type 1} → statement M
 receivers-spec =

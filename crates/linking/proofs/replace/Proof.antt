@@ -1,7 +1,7 @@
--- `wiring::Table::with_row` meets its contract. Assumes nothing.
+-- `linking::replace` meets its contract. Assumes nothing.
 use borrow.Author.Needs.{needs}
-use Rattle.wiring.proofs.Table.with_row.Statement.{statement}
-use Rattle.wiring.proofs.Table.with_row.Tie as tie
+use Rattle.linking.proofs.replace.Statement.{statement}
+use Rattle.linking.proofs.replace.Tie as tie
 
 enum-told : tie.Need-enum-told
 enum-told c = search needs
@@ -27,7 +27,7 @@ returns-3 c = simp (c .enum-told3 .given .1)
 returns-4 : tie.Need-returns-4
 returns-4 c = simp (c .enum-told4 .given .1)
 
-pub with-row-spec : {M : Type 1} → statement M
-with-row-spec =
+pub replace-spec : {M : Type 1} → statement M
+replace-spec =
     tie.close
     (tie.spec enum-told enum-told-2 enum-told-3 enum-told-4 returns returns-2 returns-3 returns-4)

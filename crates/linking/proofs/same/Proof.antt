@@ -1,7 +1,7 @@
--- `wiring::same` meets its contract. Assumes nothing.
+-- `linking::same` meets its contract. Assumes nothing.
 use borrow.Author.Needs.{needs}
-use Rattle.wiring.proofs.same.Statement.{statement}
-use Rattle.wiring.proofs.same.Tie as tie
+use Rattle.linking.proofs.same.Statement.{statement}
+use Rattle.linking.proofs.same.Tie as tie
 
 place-requires : tie.Need-place-requires
 place-requires c κs = search needs

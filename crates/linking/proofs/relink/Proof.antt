@@ -1,7 +1,7 @@
--- `sending::relink` meets its contract. Assumes nothing.
+-- `linking::relink` meets its contract. Assumes nothing.
 use borrow.Author.Needs.{needs}
-use Rattle.sending.proofs.relink.Statement.{statement}
-use Rattle.sending.proofs.relink.Tie as tie
+use Rattle.linking.proofs.relink.Statement.{statement}
+use Rattle.linking.proofs.relink.Tie as tie
 
 enum-told : tie.Need-enum-told
 enum-told c = search needs
@@ -15,8 +15,8 @@ enum-told-3 c = search needs
 enum-known-order : tie.Need-enum-known-order
 enum-known-order c = search needs
 
-linked-requires : tie.Need-linked-requires
-linked-requires c κs = search needs
+link-requires : tie.Need-link-requires
+link-requires c κs = search needs
 
 enum-told-4 : tie.Need-enum-told-4
 enum-told-4 c = search needs
@@ -31,7 +31,7 @@ returns-3 : tie.Need-returns-3
 returns-3 c = search needs
 
 returns-4 : tie.Need-returns-4
-returns-4 c = simp (c .linked .ensures, c .before .before .order .given .1)
+returns-4 c = simp (c .link .ensures, c .before .before .order .given .1)
 
 returns-5 : tie.Need-returns-5
 returns-5 c = search needs
@@ -44,7 +44,7 @@ relink-spec =
     enum-told-2
     enum-told-3
     enum-known-order
-    linked-requires
+    link-requires
     enum-told-4
     returns
     returns-2
