@@ -80,7 +80,8 @@ impl Links {
         }
     }
 
-    fn in_range(self) -> bool
+    // Whether it lies within the ranges of the page, with no module linked to itself.
+    pub fn in_range(self) -> bool
         ensures { λ r. ⌜ r ≡ inRange self ⌝ }
     {
         if self.table.links_itself() {

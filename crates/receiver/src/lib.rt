@@ -23,7 +23,7 @@ use phases::collect;
 use phases::hear;
 use reader::Verdict;
 use requests::ask;
-use states::in_range;
+pub use states::in_range;
 
 pub enum Phase {
     Off,

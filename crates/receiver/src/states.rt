@@ -4,7 +4,7 @@ ghost use Rattle.receiver.specs.States.{inRange, emptied as emptiedState
 use crate::Phase;
 use crate::Receiver;
 
-pub(crate) fn in_range(r: Receiver) -> bool
+pub fn in_range(r: Receiver) -> bool
     ensures { λ o. ⌜ o ≡ inRange r ⌝ }
 {
     if 16 <= r.number {

@@ -1,0 +1,18 @@
+use borrow.Author.Needs.{needs}
+use Rattle.board.proofs.Board.with_connected.Statement.{statement}
+use Rattle.board.proofs.Board.with_connected.Tie as tie
+
+-- src/lib.rt:247:19
+with-connected-requires : tie.Need-with-connected-requires
+with-connected-requires c κs = search needs
+
+-- src/lib.rt:247:9
+pass-requires : tie.Need-pass-requires
+pass-requires c κs = search needs
+
+-- src/lib.rt:243:5
+returns : tie.Need-returns
+returns c = simp (c .pass .ensures, c .before .with-connected .ensures)
+
+pub with-connected-spec : {M : Type 1} → statement M
+with-connected-spec = tie.close (tie.spec with-connected-requires pass-requires returns)

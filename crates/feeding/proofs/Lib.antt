@@ -1,0 +1,2 @@
+pub mod Outlets
+pub mod Suffices

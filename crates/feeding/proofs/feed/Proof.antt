@@ -1,0 +1,127 @@
+use mathlib.Core.Path.{_≡_, refl, sym, ap, ap₂, _∙_, subst⁻¹}
+use Prim.Native.Nat.{ℕ, _-_, _≤_, _<_}
+use native.Mathlib.Omega.{arith}
+use lib.ListN.{length, take, getD}
+use borrow.Author.Needs.{needs}
+use Rattle.wiring.specs.declared.Module.{Module}
+use Rattle.wiring.specs.declared.Module.the-variants.{Screen, Keyboard, Modem, Socket}
+use Rattle.links.specs.declared.Links.{Links}
+use Rattle.links.specs.declared.Outcome.{Outcome}
+use Rattle.links.specs.Calls.{fromModem}
+use Rattle.links.specs.Runs.{run}
+use Rattle.feeding.specs.declared.Shares.{Shares}
+use Rattle.feeding.specs.Feeding.{fromLine, got, sharesOf, fed, gathered, Enough}
+use Rattle.feeding.proofs.Outlets.{as-many}
+use Rattle.feeding.proofs.Suffices.{run-one, room, one-fed, suffices}
+use Rattle.feeding.proofs.feed.Statement.{statement}
+use Rattle.feeding.proofs.feed.Tie as tie
+use Rattle.feeding.proofs.feed.Reads as reads
+use Rattle.feeding.proofs.feed.Lts as lts
+use Rattle.feeding.proofs.gather.Reads as gather-reads
+use Rattle.feeding.proofs.least.Reads as least-reads
+use Rattle.feeding.proofs.nothing.Reads as nothing-reads
+use Rattle.links.proofs.Links.from_modem.Reads as from-modem-reads
+
+abbrev Inv-loop : tie.InvT-loop
+Inv-loop passed values links₀ shares₀ count i₀ links shares i =
+    (i ≤ count) × (length values ≡ 15) × (links ≡ run links₀ (fromLine (take i values)))
+    × (shares ≡ sharesOf (λ m. got m links₀ (fromLine (take i values))))
+
+abbrev μ-loop : tie.MeasureT-loop
+μ-loop passed values links₀ shares₀ count i₀ links shares i = count - i
+
+-- src/lib.rt:110:9
+nothing-requires : tie.Need-nothing-requires Inv-loop μ-loop
+nothing-requires c κs = tt
+
+-- src/lib.rt:111:9
+least-requires : tie.Need-least-requires Inv-loop μ-loop
+least-requires c κs = tt
+
+-- src/lib.rt:113:5
+loop-holds : tie.Need-loop-holds Inv-loop μ-loop
+unfolding got
+loop-holds c = (omega arith, search needs, refl, c .before .nothing .ensures)
+
+-- src/lib.rt:114:40
+array-read-from-modem : tie.Need-array-read-from-modem Inv-loop μ-loop
+array-read-from-modem c = search needs
+
+-- src/lib.rt:114:13
+from-modem-requires : tie.Need-from-modem-requires Inv-loop μ-loop
+from-modem-requires c κs = tt
+
+-- src/lib.rt:116:9
+gather-requires : tie.Need-gather-requires Inv-loop μ-loop
+gather-requires c κs =
+    let l = c .before .before .before in
+    let a = l .before .before .before .args in
+    let f : (m : Module) → length (got m (a .start) (fromLine (take (l .loop .i) (a .t2)))) ≤ 70 =
+    room (a .start) (a .t2) (l .loop .i) (omega arith) (omega arith) in
+    simp (l .loop .inv .3) ((f Screen, f Keyboard), (f Modem, f Socket))
+
+-- src/lib.rt:118:9
+add-i : tie.Need-add-i Inv-loop μ-loop
+add-i c = search needs
+
+-- src/lib.rt:113:5
+loop-less : tie.Need-loop-less Inv-loop μ-loop
+loop-less c = omega arith
+
+-- src/lib.rt:113:5
+loop-again : tie.Need-loop-again Inv-loop μ-loop
+loop-again c =
+    let l = c .before .before .before .before .before in
+    let a = l .before .before .before .args in
+    let heard = c .before .before .before .from-modem in
+    let h : l .loop .i < length (a .t2) = omega arith in
+    let v : ℕ = getD (a .t2) (l .loop .i) 0 in
+    let e : heard .result ≡ fromModem (run (a .start) (fromLine (take (l .loop .i) (a .t2)))) v =
+    heard .ensures ∙ ap (λ (x : Links). fromModem x v) (l .loop .inv .2) in (
+      omega arith,
+      l .loop .inv .1,
+      ap (λ (o : Outcome). o .next) e ∙ sym (run-one (a .start) (a .t2) (l .loop .i) h),
+      c .before .gather .ensures ∙ ap₂ (λ (w : Shares) (o : Outcome). gathered w (o .sent)) (l .loop .inv .3) e
+          ∙ one-fed (a .start) (a .t2) (l .loop .i) h,
+    )
+
+-- src/lib.rt:106:1
+returns : tie.Need-returns Inv-loop μ-loop
+unfolding fed
+returns c =
+    let l = c .before in
+    let a = l .before .before .before .args in
+    let n = l .before .least in
+    let e : l .loop .i ≡ n .result = omega arith in
+    let t : take (a .passed) (a .t2) ≡ take (n .result) (a .t2) =
+    as-many (a .t2) (a .passed) (n .result) 15 (l .loop .inv .1) (n .ensures) in
+    let r : l .loop .shares ≡ sharesOf (λ m. got m (a .start) (fromLine (take (a .passed) (a .t2)))) =
+        l .loop .inv .3 ∙ simp (e, t) in
+    let enough : (m : Module) → length (got m (a .start) (fromLine (take (a .passed) (a .t2)))) ≤ 75 =
+        λ m. suffices m (a .start) (a .t2) (a .passed) (omega arith) in (
+      simp (l .loop .inv .2, r, e, t),
+      subst⁻¹ Enough r
+          (record {
+            screen = enough Screen;
+            keyboard = enough Keyboard;
+            modem = enough Modem;
+            socket = enough Socket;
+          }),
+    )
+
+pub feed-spec : {M : Type 1} → statement M
+feed-spec =
+    tie.close
+    (tie.spec
+    Inv-loop
+    μ-loop
+    nothing-requires
+    least-requires
+    loop-holds
+    array-read-from-modem
+    from-modem-requires
+    gather-requires
+    add-i
+    loop-less
+    loop-again
+    returns)

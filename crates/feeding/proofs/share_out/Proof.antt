@@ -1,0 +1,46 @@
+use mathlib.Core.Path.{_≡_, ap, _∙_, subst⁻¹}
+use Prim.Native.Nat.{_≤_}
+use mathlib.Core.List.{[]}
+use native.Mathlib.Omega.{arith}
+use lib.ListN.{length}
+use Rattle.sending.specs.declared.Bytes.{Bytes}
+use Rattle.sending.specs.Sending.{bytesOf, gets}
+use Rattle.feeding.specs.declared.Shares.{Shares}
+use Rattle.feeding.specs.Feeding.{sharesOf, gathered, Enough}
+use Rattle.feeding.proofs.Outlets.{taken-most, gathers}
+use borrow.Author.Needs.{needs}
+use Rattle.feeding.proofs.share_out.Statement.{statement}
+use Rattle.feeding.proofs.share_out.Tie as tie
+use Rattle.feeding.proofs.share_out.Reads as reads
+use Rattle.feeding.proofs.share_out.Lts as lts
+use Rattle.feeding.proofs.gather.Reads as gather-reads
+use Rattle.feeding.proofs.nothing.Reads as nothing-reads
+
+-- src/lib.rt:102:12
+nothing-requires : tie.Need-nothing-requires
+nothing-requires c κs = search needs
+
+-- src/lib.rt:102:5
+gather-requires : tie.Need-gather-requires
+gather-requires c κs = simp (c .nothing .ensures) ((omega arith, omega arith), (omega arith, omega arith))
+
+-- src/lib.rt:99:1
+returns : tie.Need-returns
+returns c =
+    let sent = c .before .before .args .sent in
+    let r : c .gather .result ≡ sharesOf (gets sent) =
+        c .gather .ensures ∙ ap (λ (w : Shares). gathered w sent) (c .before .nothing .ensures) ∙ gathers (λ m. []) sent in
+    let few : (b : Bytes) → length (b .codes) ≡ 5 → length (bytesOf b) ≤ 75 =
+        λ b n. omega (arith, n, taken-most (b .count) (b .codes)) in (
+      r,
+      subst⁻¹ Enough r
+          (record {
+            screen = few (sent .screen) (search (needs, c .before .before .good .0));
+            keyboard = few (sent .keyboard) (search (needs, c .before .before .good .0 .1));
+            modem = few (sent .modem) (search (needs, c .before .before .good .0 .1 .1));
+            socket = few (sent .socket) (search (needs, c .before .before .good .0 .1 .1 .1));
+          }),
+    )
+
+pub share-out-spec : {M : Type 1} → statement M
+share-out-spec = tie.close (tie.spec nothing-requires gather-requires returns)

@@ -1,0 +1,121 @@
+// Values handed to the links one after the other, and what each module gets of them altogether (01, "Links and
+// commands").
+//
+// One line byte lets the receiver pass on up to fifteen values, and each sends at most five bytes to any module: so
+// seventy-five places always suffice for what a module gets. specs/Feeding says what that is; proofs/Suffices shows
+// that the places suffice.
+ghost use mathlib.Core.Path.{_≡_};
+ghost use mathlib.Core.List.{[], _++_};
+ghost use Prim.Native.Nat.{_+_, _≤_, _<_};
+ghost use lib.ListN.{length, take};
+ghost use Rattle.sending.specs.Sending.{bytesOf, gets};
+ghost use Rattle.feeding.specs.Feeding.{appended, sharesOf, gathered, nobody, fed, Enough};
+use links::Links;
+use sending::Bytes;
+use sending::Sent;
+
+// Up to seventy-five bytes: the first `count`. The places past them are 0.
+pub struct Outlet {
+    pub codes: [u8; 75],
+    pub count: usize,
+}
+
+// What each module gets.
+pub struct Shares {
+    pub screen: Outlet,
+    pub keyboard: Outlet,
+    pub modem: Outlet,
+    pub socket: Outlet,
+}
+
+// The links after some values, and what each module got of them.
+pub struct Fed {
+    pub links: Links,
+    pub shares: Shares,
+}
+
+// The lesser of two counts.
+fn least(a: usize, b: usize) -> usize
+    ensures { λ r. ⌜ (r ≤ a) × (r ≤ b) × (r < b → r ≡ a) ⌝ }
+{
+    if a < b { a } else { b }
+}
+
+// Bytes behind those that an outlet has.
+fn append(outlet: Outlet, bytes: Bytes) -> Outlet
+    requires { ⌜ outlet .count ≤ 70 ⌝ }
+    ensures { λ r. ⌜ r ≡ appended «outlet» bytes ⌝ }
+{
+    let mut codes = outlet.codes;
+    let from = bytes.codes;
+    let at = outlet.count;
+    let count = least(bytes.count, 5);
+    let mut done: usize = 0;
+    while done < count {
+        codes[at + done] = from[done];
+        done += 1;
+    }
+    Outlet {
+        codes,
+        count: at + count,
+    }
+}
+
+// What was sent behind what each module has.
+fn gather(shares: Shares, sent: Sent) -> Shares
+    requires { ⌜ (shares .screen .count ≤ 70) × (shares .keyboard .count ≤ 70) ⌝ }
+    requires { ⌜ (shares .modem .count ≤ 70) × (shares .socket .count ≤ 70) ⌝ }
+    ensures { λ r. ⌜ r ≡ gathered shares sent ⌝ }
+{
+    let screen = append(shares.screen, sent.screen);
+    let keyboard = append(shares.keyboard, sent.keyboard);
+    let modem = append(shares.modem, sent.modem);
+    let socket = append(shares.socket, sent.socket);
+    Shares {
+        screen,
+        keyboard,
+        modem,
+        socket,
+    }
+}
+
+// Nobody gets anything.
+fn nothing() -> Shares
+    ensures { λ r. ⌜ r ≡ nobody ⌝ }
+{
+    let none = Outlet {
+        codes: [0; 75],
+        count: 0,
+    };
+    Shares {
+        screen: none,
+        keyboard: none,
+        modem: none,
+        socket: none,
+    }
+}
+
+// What one call of the links sent.
+pub fn share_out(sent: Sent) -> Shares
+    ensures { λ r. ⌜ (r ≡ sharesOf (gets sent)) × Enough r ⌝ }
+{
+    gather(nothing(), sent)
+}
+
+// The first `passed` values, handed to the links as the modem's.
+pub fn feed(start: Links, values: [u8; 15], passed: usize) -> Fed
+    ensures { λ r. ⌜ (r ≡ fed start (take passed values)) × Enough (r .shares) ⌝ }
+{
+    let mut links = start;
+    let mut shares = nothing();
+    let count = least(passed, 15);
+    let mut i: usize = 0;
+    while i < count {
+        let outcome = links.from_modem(values[i]);
+        let sent = outcome.sent;
+        shares = gather(shares, sent);
+        links = outcome.next;
+        i += 1;
+    }
+    Fed { links, shares }
+}
