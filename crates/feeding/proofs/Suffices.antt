@@ -7,6 +7,8 @@ use native.Mathlib.Numerals.{add-one}
 use native.Mathlib.Omega.{arith}
 use lib.ListN.{length, take, getD, length-append, length-map}
 use lib.Seq.{take-suc, length-take-le}
+use Rattle.values.specs.Large.{Values}
+use Rattle.values.proofs.Found.{values-none, values-append}
 use Rattle.wiring.specs.declared.Module.{Module}
 use Rattle.wiring.specs.declared.Module.the-variants.{Screen, Keyboard, Modem, Socket}
 use Rattle.links.specs.declared.Links.{Links}
@@ -66,6 +68,13 @@ few-got m l (c ∷ cs) =
     let f = few c l m in
     let sum = length-append (given l c m) (got m (obey c l .next) cs) in
     let rest = few-got m (obey c l .next) cs in omega (arith, f .0, f .1, sum, rest)
+
+-- none of it above 127
+pub small-got : (m : Module) (l : Links) (cs : List Call) → Values (got m l cs)
+unfolding got
+small-got m l [] = values-none
+small-got m l (c ∷ cs) =
+    values-append (given l c m) (got m (obey c l .next) cs) (few c l m .2) (small-got m (obey c l .next) cs)
 
 -- of the first i values
 pub few-of : (m : Module) (l : Links) (vs : List ℕ) (i : ℕ) → i ≤ length vs

@@ -1,5 +1,5 @@
 -- The numbers given, and a piece as single steps. Assumes nothing.
-use mathlib.Core.Path.{_≡_, refl, sym, ap, _∙_, subst}
+use mathlib.Core.Path.{_≡_, refl, sym, ap, _∙_, subst, subst⁻¹}
 use mathlib.Core.Bool.{Bool, true, false, cond}
 use mathlib.Core.List.{List, [], _∷_, _++_}
 use mathlib.Core.Logic.{⊎-elim}
@@ -9,7 +9,7 @@ use native.Mathlib.Nat.{zero-lt-suc}
 use lib.Dec.{ltb, eqb}
 use lib.ListN.{length}
 use borrow.Author.Tests.{lt-ltb, le-ltb}
-use Rattle.laws.proofs.Computed.{apart}
+use Rattle.laws.proofs.Computed.{apart, chosen}
 use Rattle.numbers.specs.Numbers.{Told, numberOf}
 use Rattle.values.specs.Large.{Values, firstLarge}
 use Rattle.values.proofs.Found.{none-large, values-append}
@@ -108,6 +108,16 @@ by-in s [] h v = h
 by-in s (b ∷ bs) h v =
     by-in (advanced s b) bs (advanced-in b (omega (arith, v 0 (zero-lt-suc (length bs)))) h)
     (λ i k. v (suc i) (omega (arith, k)))
+
+pub ran-in : (s : Screen) (vs : List ℕ) → InScreen s → Values vs → InScreen (ran s vs .screen)
+ran-in s vs h v = subst⁻¹ (λ (r : Ran). InScreen (r .screen)) (run-taken s vs (unbroken h) v) (by-in s vs h v)
+
+-- no values leave a screen as it was, in range or not
+pub ran-none : (s : Screen) → ran s [] .screen ≡ s
+unfolding ran advancedBy
+ran-none s =
+    chosen (λ (r : Ran). r .screen ≡ s) (broken s) (λ i. refl)
+    (λ i. chosen (λ (r : Ran). r .screen ≡ s) (ltb (firstLarge []) 0) (λ l. refl) (λ l. refl))
 
 -- a run over some values and then others is the run over the first, then over the others
 pub run-parts : (s : Screen) (us vs : List ℕ) → InScreen s → Values us → Values vs
