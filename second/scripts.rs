@@ -1,10 +1,20 @@
 //! Writes the stored trial scripts into a directory, the same ones each time.
 
+mod bad_line;
 mod block;
 mod block_scripts;
+mod board;
+mod board_broken;
+mod board_cards;
+mod board_lines;
+mod board_pieces;
+mod board_record;
+mod board_scripts;
+mod damage;
 mod judge;
 mod limits;
 mod line_scripts;
+mod links;
 mod links_apart;
 mod links_broken;
 mod links_codes;
@@ -17,12 +27,14 @@ mod links_scripts;
 mod links_state;
 mod links_tables;
 mod links_writing;
+mod page_values;
 mod polynomial;
 mod receiver;
 mod receiver_broken;
 mod receiver_lines;
 mod receiver_record;
 mod receiver_scripts;
+mod screen;
 mod screen_broken;
 mod screen_codes;
 mod screen_decided;
@@ -51,7 +63,7 @@ use script::Script;
 type Stored = (&'static str, fn() -> Script);
 
 /// Every stored script. A new family of commands adds its own here.
-const STORED: [Stored; 30] = [
+const STORED: [Stored; 35] = [
     ("cards", block_scripts::cards),
     ("making", block_scripts::making),
     ("lengths", block_scripts::lengths),
@@ -82,6 +94,11 @@ const STORED: [Stored; 30] = [
     ("lnk-broken", links_broken::broken),
     ("lnk-random", links_random::random),
     ("lnk-lines", links_lines::lines),
+    ("brd-cards", board_cards::cards),
+    ("brd-line", board_record::line),
+    ("brd-pieces", board_pieces::pieces),
+    ("brd-broken", board_broken::broken),
+    ("brd-lines", board_lines::lines),
 ];
 
 fn main() -> ExitCode {
