@@ -7,6 +7,7 @@ mod board;
 mod board_broken;
 mod board_cards;
 mod board_lines;
+mod board_no_commands;
 mod board_pieces;
 mod board_record;
 mod board_scripts;
@@ -49,21 +50,17 @@ mod screen_sequences;
 mod screen_state;
 mod screen_writing;
 mod script;
+mod stored_files;
 mod writing;
 mod xorshift;
 
-use std::env;
-use std::fs;
-use std::path::{Path, PathBuf};
 use std::process::ExitCode;
 
 use script::Script;
-
-/// The file name of a stored script, and what writes its text.
-type Stored = (&'static str, fn() -> Script);
+use stored_files::Stored;
 
 /// Every stored script. A new family of commands adds its own here.
-const STORED: [Stored; 35] = [
+const STORED: [Stored<Script>; 35] = [
     ("cards", block_scripts::cards),
     ("making", block_scripts::making),
     ("lengths", block_scripts::lengths),
@@ -102,26 +99,5 @@ const STORED: [Stored; 35] = [
 ];
 
 fn main() -> ExitCode {
-    match directory().and_then(|directory| write_all(&directory)) {
-        Ok(()) => ExitCode::SUCCESS,
-        Err(message) => {
-            eprintln!("{message}");
-            ExitCode::FAILURE
-        }
-    }
-}
-
-fn directory() -> Result<PathBuf, String> {
-    let mut arguments = env::args_os().skip(1);
-    match (arguments.next(), arguments.next()) {
-        (Some(directory), None) => Ok(PathBuf::from(directory)),
-        _ => Err("usage: scripts DIR".to_string()),
-    }
-}
-
-fn write_all(directory: &Path) -> Result<(), String> {
-    STORED.iter().try_for_each(|(name, script)| {
-        let path = directory.join(name);
-        fs::write(&path, script().text()).map_err(|error| format!("{}: {error}", path.display()))
-    })
+    stored_files::write_all("scripts", &STORED)
 }
