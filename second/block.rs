@@ -27,6 +27,10 @@ pub type Block = [u8; LENGTH];
 
 /// The block of at most 15 values, each at most 127, filled up with NUL.
 pub fn form(values: &[u8]) -> Block {
+    assert!(
+        values.len() <= USEFUL,
+        "too many values for a block: {values:02x?}"
+    );
     let mut block = [0; LENGTH];
     for (byte, &value) in block.iter_mut().zip(values) {
         *byte = with_parity(value);

@@ -8,3 +8,6 @@ pub const MOST_BYTES: usize = 64;
 
 /// The most values in one run over the screen.
 pub const MOST_VALUES: usize = 4_000;
+
+/// The most bytes in a piece from the line, and of room in each output for it.
+pub const LONGEST_PIECE: usize = 600;

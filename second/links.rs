@@ -4,8 +4,7 @@
 use std::mem;
 
 use crate::links_codes::{ASK, CLEAR, ESC, FIRST_RECEIVER, FIRST_SENDER, PRO1, PRO2, PRO3, SET};
-use crate::links_ranges::LARGEST_CODE;
-use crate::links_state::{Links, Module, Table, MODEM, MODULES, SOCKET};
+use crate::links_state::{Links, Module, MODEM, MODULES, SOCKET};
 
 /// The first code after PRO3 in a reply.
 const REPLY: u8 = 0x63;
@@ -16,42 +15,22 @@ const STATUS: u8 = 0x40;
 /// What each receiver gets from a call.
 pub type Sent = [Vec<u8>; MODULES];
 
-/// Why a call leaves the state as it is and sends nothing.
-pub enum Refusal {
-    BrokenState,
-    ValueTooLarge,
-}
-
 impl Links {
-    /// The host chooses a table. What is unfinished stays.
-    pub fn choose(&mut self, table: Table) -> Result<Sent, Refusal> {
-        if !self.is_in_range() {
-            return Err(Refusal::BrokenState);
-        }
-        self.table = table;
-        Ok(Sent::default())
-    }
-
-    /// Takes one value from keyboard, modem or socket.
-    pub fn take(&mut self, sender: Module, value: u8) -> Result<Sent, Refusal> {
-        if !self.is_in_range() {
-            return Err(Refusal::BrokenState);
-        }
-        if value > LARGEST_CODE {
-            return Err(Refusal::ValueTooLarge);
-        }
+    /// Takes one value of at most 127 from keyboard, modem or socket. The state
+    /// must be in range.
+    pub fn hear(&mut self, sender: Module, value: u8) -> Sent {
         let codes = match sender {
             MODEM => &mut self.modem,
             SOCKET => &mut self.socket,
             // The keyboard is not heard for commands, so nothing of it is held.
-            _ => return Ok(self.along_links(sender, &[value])),
+            _ => return self.along_links(sender, &[value]),
         };
         codes.push(value);
         if is_unfinished(codes) {
-            return Ok(Sent::default());
+            return Sent::default();
         }
         let ended = mem::take(codes);
-        Ok(self.end(sender, &ended))
+        self.end(sender, &ended)
     }
 
     /// A sequence has ended: a command is taken out of the flow, and anything

@@ -1,6 +1,7 @@
 //! The family of commands on the links: `lnk`.
 
-use crate::links::{Refusal, Sent};
+use crate::links::Sent;
+use crate::links_calls::Refusal;
 use crate::links_state::{self, Links};
 use crate::trial::Family;
 use crate::{links_reading, reading, writing};

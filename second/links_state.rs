@@ -14,6 +14,7 @@ pub const MODULES: usize = 4;
 /// Whether the bytes of a sender, the first index, reach a receiver, the second.
 pub type Table = [[bool; MODULES]; MODULES];
 
+#[derive(Clone)]
 pub struct Links {
     pub table: Table,
     /// The modem's unfinished sequence, all its codes so far. None: nothing is unfinished.

@@ -3,9 +3,12 @@
 
 mod block;
 mod block_commands;
+mod board;
+mod board_commands;
 mod judge;
 mod limits;
 mod links;
+mod links_calls;
 mod links_codes;
 mod links_commands;
 mod links_ranges;
@@ -19,6 +22,7 @@ mod receiver;
 mod receiver_commands;
 mod receiver_state;
 mod screen;
+mod screen_calls;
 mod screen_codes;
 mod screen_commands;
 mod screen_ranges;

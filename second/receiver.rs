@@ -19,6 +19,7 @@ const NUMBER_ZERO: u8 = 0x40;
 /// 7/F, which stands for a byte that came in wrong.
 const WRONG_BYTE: u8 = 0x7f;
 
+#[derive(Clone)]
 pub struct Receiver {
     pub phase: Phase,
     /// The number of the block that is awaited.
@@ -26,6 +27,7 @@ pub struct Receiver {
     pub held: Vec<u8>,
 }
 
+#[derive(Clone)]
 pub enum Phase {
     Off,
     Collecting,

@@ -1,9 +1,10 @@
 //! The stored script that is the record of a bad line: a sender sends blocks,
 //! the line damages them, and the sender heeds what the receiver asks for.
 
-use crate::block::{self, Block, BITS, CODE_BITS, LENGTH, USEFUL};
+use crate::block::{self, Block, USEFUL};
 use crate::block_scripts::random_values;
-use crate::receiver::{self, Phase, Receiver, NUMBERS, SYN};
+use crate::damage;
+use crate::receiver::{Phase, Receiver, NUMBERS};
 use crate::receiver_scripts::{byte, ASK, OFF, ON};
 use crate::script::Script;
 use crate::xorshift::Xorshift;
@@ -12,10 +13,6 @@ const RECORD_SEED: u64 = 0x7278_206c_696e_6531;
 
 /// The record ends when so many blocks have come through.
 const BLOCKS: usize = 240;
-
-/// The places of byte 16 and byte 17.
-const REMAINDER: usize = 15;
-const VALIDATION: usize = 16;
 
 pub fn line() -> Script {
     let mut record = Record {
@@ -59,7 +56,7 @@ impl Record {
             let block = self.new_block();
             self.blocks.push(block);
         }
-        let (what, bytes) = self.damaged(self.blocks[self.next]);
+        let (what, bytes) = damage::block(&mut self.random, self.blocks[self.next]);
         self.comment_on_block(what);
         let heeds_at_once = self.random.one_in(2);
         for byte in bytes {
@@ -90,46 +87,11 @@ impl Record {
     fn resume(&mut self, number: u8) {
         let has_number = |&place: &usize| place % usize::from(NUMBERS) == usize::from(number);
         self.next = (0..=self.next).rev().find(has_number).unwrap_or(self.next);
-        let (what, codes) = self.resuming_codes(number);
+        let (what, codes) = damage::resumption(&mut self.random, number);
         self.script
             .comment(&format!("resuming at {number}: {what}"));
         for code in codes {
             self.take(code);
-        }
-    }
-
-    /// The codes as they come through, mostly whole. Where they do not end the
-    /// waiting, only the host's next asking can.
-    fn resuming_codes(&mut self, number: u8) -> (&'static str, Vec<u8>) {
-        let mut codes = receiver::resumption(number).to_vec();
-        match self.random.below(10) {
-            0 => {
-                codes.insert(0, SYN);
-                ("three synchronising codes", codes)
-            }
-            1 => {
-                let wrong = (number + 1 + self.random.below(15) as u8) % NUMBERS;
-                let both = [receiver::resumption(wrong).to_vec(), codes].concat();
-                ("a wrong number first", both)
-            }
-            2 => {
-                let hit = self.random.below(codes.len());
-                codes[hit] ^= 1 << self.random.below(8);
-                ("one bit hit", codes)
-            }
-            3 => {
-                codes.remove(self.random.below(3));
-                ("one code lost", codes)
-            }
-            4 => {
-                codes.insert(self.random.below(4), self.random.byte());
-                ("a stray byte among the codes", codes)
-            }
-            5 => {
-                let nuls = vec![0; 1 + self.random.below(3)];
-                ("after NULs", [nuls, codes].concat())
-            }
-            _ => ("as sent", codes),
         }
     }
 
@@ -187,49 +149,5 @@ impl Record {
             USEFUL
         };
         block::form(&random_values(&mut self.random, count))
-    }
-
-    /// The block as it comes through, and what has happened to it.
-    fn damaged(&mut self, block: Block) -> (&'static str, Vec<u8>) {
-        let random = &mut self.random;
-        let mut bytes = block.to_vec();
-        match random.below(34) {
-            0..=4 => {
-                let bit = random.below(CODE_BITS);
-                ("one code bit hit", block::hit(block, bit).to_vec())
-            }
-            5..=7 => {
-                let bit = random.below(BITS);
-                let other = (bit + 1 + random.below(BITS - 1)) % BITS;
-                let hit_twice = block::hit(block::hit(block, bit), other);
-                ("two bits hit", hit_twice.to_vec())
-            }
-            8 => {
-                bytes[REMAINDER] ^= 128;
-                ("the parity bit of byte 16 hit", bytes)
-            }
-            9 => {
-                bytes[VALIDATION] ^= 1 << random.below(8);
-                ("byte 17 hit", bytes)
-            }
-            10 => {
-                bytes.remove(random.below(LENGTH));
-                ("one byte lost", bytes)
-            }
-            11 => {
-                let place = random.below(LENGTH);
-                bytes.insert(place, bytes[place]);
-                ("one byte doubled", bytes)
-            }
-            12 => {
-                bytes.insert(random.below(LENGTH + 1), random.byte());
-                ("a stray byte", bytes)
-            }
-            13 => {
-                let nuls = vec![0; 1 + random.below(3)];
-                ("after NULs", [nuls, bytes].concat())
-            }
-            _ => ("whole", bytes),
-        }
     }
 }

@@ -29,7 +29,7 @@ pub const PHASES_AND_SEEN: [(usize, usize); 5] = [
 ];
 
 /// The card W5, a block wrong in the parity bit of byte 16 only.
-const W5: Block = [0, 0, 0, 0, 0, 0, 0, 0, 0, 0, 0, 0, 0, 0, 0, 128, 0];
+pub const W5: Block = [0, 0, 0, 0, 0, 0, 0, 0, 0, 0, 0, 0, 0, 0, 0, 128, 0];
 
 /// 1/6 without its parity, which is no synchronising code.
 const BARE_SYN: u8 = 22;

@@ -7,44 +7,13 @@ use crate::screen_state::{
     Cell, Character, Kept, Place, Screen, Unfinished, BLANK, COLUMNS, G0, G1, G2, HOME, ROWS, START,
 };
 
-const LARGEST_VALUE: u8 = 127;
-
 /// The last column and the last row.
 const LAST_COLUMN: u8 = COLUMNS;
 const LAST_ROW: u8 = ROWS - 1;
 
-pub enum Refusal {
-    BrokenState,
-    ValueTooLarge {
-        /// The lowest place of such a value, counted from 0.
-        place: usize,
-    },
-}
-
 impl Screen {
-    /// Takes the values one after the other, or refuses them all.
-    pub fn run(&mut self, values: &[u8]) -> Result<(), Refusal> {
-        if !self.is_in_range() {
-            return Err(Refusal::BrokenState);
-        }
-        if let Some(place) = values.iter().position(|&value| value > LARGEST_VALUE) {
-            return Err(Refusal::ValueTooLarge { place });
-        }
-        for &value in values {
-            self.take(value);
-        }
-        Ok(())
-    }
-
-    /// The cell at a place, or nothing for one off the screen.
-    pub fn read(&self, place: Place) -> Result<Option<Cell>, Refusal> {
-        if !self.is_in_range() {
-            return Err(Refusal::BrokenState);
-        }
-        Ok(place.is_on_screen().then(|| self.cells[place.index()]))
-    }
-
-    fn take(&mut self, value: u8) {
+    /// Takes one value of at most 127. The state must be in range.
+    pub fn take(&mut self, value: u8) {
         // Skipped everywhere: what is unfinished stays so.
         if value == NUL {
             return;
@@ -242,7 +211,7 @@ impl Place {
     }
 
     /// Among the cells, row 0, column 1 first.
-    fn index(self) -> usize {
+    pub fn index(self) -> usize {
         usize::from(self.row) * usize::from(COLUMNS) + usize::from(self.column) - 1
     }
 }

@@ -10,10 +10,10 @@ use crate::xorshift::Xorshift;
 const CELLS_SEED: u64 = 0x7363_7220_6365_6c6c;
 
 /// What is changed in a good state, and how.
-type Change = (&'static str, fn(&mut Screen));
+pub type Change = (&'static str, fn(&mut Screen));
 
 /// Each leaves one range of a cell.
-const CELL_CHANGES: [(&str, fn(&mut Cell)); 10] = [
+pub const CELL_CHANGES: [(&str, fn(&mut Cell)); 10] = [
     ("set 3", |cell| cell.set = 3),
     ("set 15", |cell| cell.set = 15),
     ("code 1/F", |cell| cell.code = 0x1f),
@@ -27,7 +27,7 @@ const CELL_CHANGES: [(&str, fn(&mut Cell)); 10] = [
 ];
 
 /// Each leaves one range of what is not a cell.
-const CHANGES: &[Change] = &[
+pub const CHANGES: &[Change] = &[
     ("cursor row 25", |screen| screen.cursor.row = 25),
     ("cursor row 255", |screen| screen.cursor.row = 255),
     ("cursor column 0", |screen| screen.cursor.column = 0),
@@ -100,7 +100,7 @@ const CHANGES: &[Change] = &[
 ];
 
 /// States at the edge of the ranges, and some that no run reaches.
-const IN_RANGE: &[Change] = &[
+pub const IN_RANGE: &[Change] = &[
     (
         "cursor in the first place of row 0, nothing kept",
         |screen| {
@@ -286,7 +286,7 @@ fn every_cell_handed_in(script: &mut Script) {
 }
 
 /// A good state in which any call would show.
-fn used() -> Screen {
+pub fn used() -> Screen {
     let mut screen = Screen::fresh();
     screen.cells[40] = edge_cell();
     screen.cursor = Place { row: 5, column: 6 };

@@ -1,7 +1,7 @@
 //! The family of commands on the screen: `scr`.
 
 use crate::limits::MOST_VALUES;
-use crate::screen::Refusal;
+use crate::screen_calls::Refusal;
 use crate::screen_state::{Cell, Place, Screen};
 use crate::trial::Family;
 use crate::{reading, screen_reading, screen_writing};

@@ -25,8 +25,10 @@ impl Script {
     pub fn line_without_end(&mut self, line: impl AsRef<[u8]>) {
         self.text.extend_from_slice(line.as_ref());
     }
+}
 
-    pub fn text(&self) -> &[u8] {
+impl AsRef<[u8]> for Script {
+    fn as_ref(&self) -> &[u8] {
         &self.text
     }
 }

@@ -1,10 +1,21 @@
 //! Writes the stored trial scripts into a directory, the same ones each time.
 
+mod bad_line;
 mod block;
 mod block_scripts;
+mod board;
+mod board_broken;
+mod board_cards;
+mod board_lines;
+mod board_no_commands;
+mod board_pieces;
+mod board_record;
+mod board_scripts;
+mod damage;
 mod judge;
 mod limits;
 mod line_scripts;
+mod links;
 mod links_apart;
 mod links_broken;
 mod links_codes;
@@ -17,12 +28,14 @@ mod links_scripts;
 mod links_state;
 mod links_tables;
 mod links_writing;
+mod page_values;
 mod polynomial;
 mod receiver;
 mod receiver_broken;
 mod receiver_lines;
 mod receiver_record;
 mod receiver_scripts;
+mod screen;
 mod screen_broken;
 mod screen_codes;
 mod screen_decided;
@@ -37,21 +50,17 @@ mod screen_sequences;
 mod screen_state;
 mod screen_writing;
 mod script;
+mod stored_files;
 mod writing;
 mod xorshift;
 
-use std::env;
-use std::fs;
-use std::path::{Path, PathBuf};
 use std::process::ExitCode;
 
 use script::Script;
-
-/// The file name of a stored script, and what writes its text.
-type Stored = (&'static str, fn() -> Script);
+use stored_files::Stored;
 
 /// Every stored script. A new family of commands adds its own here.
-const STORED: [Stored; 30] = [
+const STORED: [Stored<Script>; 35] = [
     ("cards", block_scripts::cards),
     ("making", block_scripts::making),
     ("lengths", block_scripts::lengths),
@@ -82,29 +91,13 @@ const STORED: [Stored; 30] = [
     ("lnk-broken", links_broken::broken),
     ("lnk-random", links_random::random),
     ("lnk-lines", links_lines::lines),
+    ("brd-cards", board_cards::cards),
+    ("brd-line", board_record::line),
+    ("brd-pieces", board_pieces::pieces),
+    ("brd-broken", board_broken::broken),
+    ("brd-lines", board_lines::lines),
 ];
 
 fn main() -> ExitCode {
-    match directory().and_then(|directory| write_all(&directory)) {
-        Ok(()) => ExitCode::SUCCESS,
-        Err(message) => {
-            eprintln!("{message}");
-            ExitCode::FAILURE
-        }
-    }
-}
-
-fn directory() -> Result<PathBuf, String> {
-    let mut arguments = env::args_os().skip(1);
-    match (arguments.next(), arguments.next()) {
-        (Some(directory), None) => Ok(PathBuf::from(directory)),
-        _ => Err("usage: scripts DIR".to_string()),
-    }
-}
-
-fn write_all(directory: &Path) -> Result<(), String> {
-    STORED.iter().try_for_each(|(name, script)| {
-        let path = directory.join(name);
-        fs::write(&path, script().text()).map_err(|error| format!("{}: {error}", path.display()))
-    })
+    stored_files::write_all("scripts", &STORED)
 }

@@ -3,6 +3,7 @@
 use std::io::{self, BufRead, Write};
 
 use crate::block_commands::BlockCommands;
+use crate::board_commands::BoardCommands;
 use crate::limits::LONGEST_LINE;
 use crate::links_commands::LinksCommands;
 use crate::reading;
@@ -23,6 +24,7 @@ fn start_state() -> Vec<Box<dyn Family>> {
         Box::new(ReceiverCommands::start()),
         Box::new(ScreenCommands::start()),
         Box::new(LinksCommands::start()),
+        Box::new(BoardCommands::start()),
     ]
 }
 
