@@ -108,7 +108,7 @@ call-alone c b i =
 
 -- ---- one way, then another
 
-asked-append : (os ps : List Sent) → allAsked (os ++ ps) ≡ allAsked os ++ allAsked ps
+pub asked-append : (os ps : List Sent) → allAsked (os ++ ps) ≡ allAsked os ++ allAsked ps
 asked-append [] ps = refl
 asked-append (o ∷ os) ps =
     ap (λ (x : List ℕ). o .asked ++ x) (asked-append os ps)
@@ -119,7 +119,7 @@ further : {b c d : Board} {hs gs : List Heard} {cs ds : List Call} {outs more : 
     → Goes b d (hs ++ gs) (cs ++ ds) (λ m. outs m ++ more m) (qs ++ ps)
 further {b} {c} {d} {hs} {gs} {cs} {ds} {outs} {more} {qs} {ps} i f n =
     let next : (m : Module) → got m (c .links) ds ≡ got m (linksRun (b .links) cs) ds =
-        λ m. ap (λ (l : Links). got m l ds) (f .links) in
+    λ m. ap (λ (l : Links). got m l ds) (f .links) in
     record {
       receiver =
           n .receiver ∙ ap (λ (r : Receiver). receiverRun r gs) (f .receiver) ∙ sym (heard-append hs gs (b .receiver));

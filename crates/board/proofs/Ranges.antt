@@ -1,9 +1,15 @@
--- The test that the calls make passes a board whose parts are in range. Assumes nothing.
+-- The test that the calls make passes just the boards whose parts are in range. Assumes nothing.
 use mathlib.Core.Path.{_≡_}
-use mathlib.Core.Bool.{true}
+use mathlib.Core.Bool.{Bool, true, false, _&&_, not}
+use lib.Dec.{T}
+use lib.ListN.{length}
+use Rattle.laws.proofs.Computed.{and-left, and-right, holds, is-true}
+use Rattle.receiver.specs.States.{inRange as receiverInRange}
 use Rattle.receiver.proofs.Kept.{new-in}
-use Rattle.links.proofs.Ranges.{passed, local-in}
-use Rattle.page.proofs.Stays.{unbroken, fresh-in-range}
+use Rattle.links.specs.States.{inRange as linksInRange}
+use Rattle.links.proofs.Ranges.{not-true, passed, tested as links-tested, local-in}
+use Rattle.page.specs.Ranges.{broken}
+use Rattle.page.proofs.Stays.{true-screen, whole, unbroken, fresh-in-range}
 use Rattle.board.specs.declared.Board.{Board}
 use Rattle.board.specs.Boards.{freshBoard, inRange}
 use Rattle.board.specs.Runs.{InBoard}
@@ -14,3 +20,18 @@ tested b i = simp (i .receiver .range, passed (b .links) (i .links), unbroken (i
 
 pub fresh-in : InBoard freshBoard
 fresh-in = record { receiver = new-in; links = local-in; screen = fresh-in-range }
+
+-- what the test passes is in range: the arrays of every board have their lengths
+pub passed-in : (b : Board) → length (b .receiver .held) ≡ 17 → length (b .screen .cells) ≡ 1000 → inRange b ≡ true
+    → InBoard b
+unfolding inRange
+passed-in b held cells e =
+    let r = receiverInRange (b .receiver) in
+    let l = linksInRange (b .links) in
+    let s = not (broken (b .screen)) in
+    let rest = and-right r (l && s) (holds e) in
+    record {
+      receiver = record { range = is-true r (and-left r (l && s) (holds e)); array = held };
+      links = links-tested (b .links) (is-true l (and-left l s rest));
+      screen = true-screen (b .screen) cells (whole (b .screen) (not-true (broken (b .screen)) (and-right l s rest)));
+    }

@@ -27,7 +27,7 @@ use Rattle.links.proofs.Steps.{keys-change-nothing}
 
 -- ---- the test
 
-not-true : (t : Bool) → T (not t) → t ≡ false
+pub not-true : (t : Bool) → T (not t) → t ≡ false
 not-true true p = absurd p
 not-true false p = refl
 

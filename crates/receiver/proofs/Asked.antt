@@ -1,15 +1,22 @@
 -- Requests name the block awaited, and asking again gives one in waiting alone. Assumes nothing.
 use mathlib.Core.Path.{_≡_, refl, ap, _∙_, subst⁻¹}
-use mathlib.Core.List.{[]}
+use mathlib.Core.List.{List, []}
 use mathlib.Core.Logic.{_⊎_, inl, inr}
-use Prim.Native.Nat.{ℕ}
+use Prim.Native.Nat.{ℕ, _≤_}
+use native.Mathlib.Omega.{arith}
+use lib.Dec.{ltb}
+use lib.ListN.{length}
+use Rattle.laws.proofs.Computed.{chosen}
+use Rattle.maker.specs.Making.{valuesOf}
+use Rattle.reader.specs.declared.Verdict.{Verdict}
+use Rattle.reader.specs.Judging.{verdict, left}
 use Rattle.codes.specs.Codes.{request}
 use Rattle.receiver.specs.declared.Phase.{Phase}
 use Rattle.receiver.specs.declared.Phase.the-variants.{Off, Collecting, Waiting}
 use Rattle.receiver.specs.declared.Receiver.{Receiver}
 use Rattle.receiver.specs.declared.Stepped.{Stepped}
-use Rattle.receiver.specs.States.{InRange}
-use Rattle.receiver.specs.Calls.{againBy, askedAgain}
+use Rattle.receiver.specs.States.{inRange, InRange}
+use Rattle.receiver.specs.Calls.{whole, accepts, judgedAs, byPhase, stepped, againBy, askedAgain}
 use Rattle.receiver.specs.Runs.{Event, byte, on, off, ask, obey, sentBy}
 use Rattle.receiver.specs.Standing.{askedIn, IsWaiting}
 use Rattle.receiver.proofs.Shape.{Shape, plain, more, took, none, listens, shape}
@@ -46,3 +53,23 @@ again-sends (Waiting n) r = refl
 
 pub again-gives : (r : Receiver) → InRange r → sentBy (askedAgain r) ≡ askedIn (r .phase) (r .number)
 again-gives r g = ap sentBy (again-as r g) ∙ again-sends (r .phase) r
+
+-- ---- whatever the state
+
+-- none or two bytes are asked, and so many are there
+abbrev pub Counted : Stepped → Type 0
+Counted s = (s .asked ≤ 2) × (length (sentBy s .asked) ≡ s .asked)
+
+judged-counted : (v : Verdict) (x : ℕ) (vs : List ℕ) → Counted (judgedAs v x vs)
+judged-counted v x vs = chosen Counted (accepts v) (λ a. (omega arith, refl)) (λ a. (omega arith, refl))
+
+phase-counted : (p : Phase) (r : Receiver) (b : ℕ) → Counted (byPhase p r b)
+phase-counted Off r b = (omega arith, refl)
+phase-counted Collecting r b =
+    chosen Counted (ltb (r .count) 16) (λ h. (omega arith, refl))
+    (λ h. judged-counted (verdict (whole r b)) (r .number) (valuesOf (left (whole r b))))
+phase-counted (Waiting n) r b = (omega arith, refl)
+
+pub asked-counted : (r : Receiver) (b : ℕ) → Counted (stepped r b)
+asked-counted r b =
+    chosen Counted (inRange r) (λ i. phase-counted (r .phase) r b) (λ i. (omega arith, refl))

@@ -96,9 +96,9 @@ returns c =
     let t : take (a .passed) (a .t2) ≡ take (n .result) (a .t2) =
     as-many (a .t2) (a .passed) (n .result) 15 (l .loop .inv .1) (n .ensures) in
     let r : l .loop .shares ≡ sharesOf (λ m. got m (a .start) (fromLine (take (a .passed) (a .t2)))) =
-        l .loop .inv .3 ∙ simp (e, t) in
+    l .loop .inv .3 ∙ simp (e, t) in
     let enough : (m : Module) → length (got m (a .start) (fromLine (take (a .passed) (a .t2)))) ≤ 75 =
-        λ m. suffices m (a .start) (a .t2) (a .passed) (omega arith) in (
+    λ m. suffices m (a .start) (a .t2) (a .passed) (omega arith) in (
       simp (l .loop .inv .2, r, e, t),
       subst⁻¹ Enough r
           (record {

@@ -29,9 +29,9 @@ returns : tie.Need-returns
 returns c =
     let sent = c .before .before .args .sent in
     let r : c .gather .result ≡ sharesOf (gets sent) =
-        c .gather .ensures ∙ ap (λ (w : Shares). gathered w sent) (c .before .nothing .ensures) ∙ gathers (λ m. []) sent in
+    c .gather .ensures ∙ ap (λ (w : Shares). gathered w sent) (c .before .nothing .ensures) ∙ gathers (λ m. []) sent in
     let few : (b : Bytes) → length (b .codes) ≡ 5 → length (bytesOf b) ≤ 75 =
-        λ b n. omega (arith, n, taken-most (b .count) (b .codes)) in (
+    λ b n. omega (arith, n, taken-most (b .count) (b .codes)) in (
       r,
       subst⁻¹ Enough r
           (record {

@@ -1,0 +1,4 @@
+pub mod Onwards
+pub mod Rooms
+pub mod SoFar
+pub mod Single

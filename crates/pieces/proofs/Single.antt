@@ -1,0 +1,92 @@
+-- A piece heard byte by byte comes to what single calls come to. Assumes nothing.
+use mathlib.Core.Path.{_≡_, refl, sym, ap, ap₂, _∙_}
+use mathlib.Core.Bool.{Bool, true, false, cond, _&&_}
+use mathlib.Core.List.{List, [], _∷_, _++_}
+use Prim.Native.Nat.{ℕ}
+use Rattle.wiring.specs.declared.Module.{Module}
+use Rattle.wiring.specs.declared.Module.the-variants.{Screen, Keyboard, Modem, Socket}
+use Rattle.receiver.specs.declared.Receiver.{Receiver}
+use Rattle.receiver.specs.Calls.{stepped}
+use Rattle.receiver.specs.Runs.{Event as Heard, byte, run as receiverRun, sentBy, sent, allAsked}
+use Rattle.links.specs.declared.Links.{Links}
+use Rattle.links.specs.Runs.{Call, run as linksRun}
+use Rattle.feeding.specs.Feeding.{fromLine, got}
+use Rattle.page.specs.declared.Screen.{Screen as Page}
+use Rattle.screen.specs.Calls.{ran}
+use Rattle.board.specs.declared.Board.{Board}
+use Rattle.board.specs.Boards.{inRange}
+use Rattle.board.specs.Runs.{run, heardIn, callsIn, Outside, InBoard}
+use Rattle.board.proofs.Parts.{apart}
+use Rattle.pieces.specs.declared.Answer.the-variants.{Taken, NoRoom, Broken}
+use Rattle.pieces.specs.declared.room.Room.{Room}
+use Rattle.pieces.specs.Pieces.{singly, handed, asked, yields, within, passage, refused, linesOf, isTaken}
+use Rattle.pieces.specs.Hearing.{bytes, calls, toEach, asks, needed, frontOf, heardWhole, played}
+
+heard-singly : (xs : List ℕ) → heardIn (singly xs) ≡ bytes xs
+heard-singly [] = refl
+heard-singly (x ∷ xs) = ap (λ (hs : List Heard). byte x ∷ hs) (heard-singly xs)
+
+calls-singly : (r : Receiver) (xs : List ℕ) → callsIn r (singly xs) ≡ calls r xs
+unfolding calls
+calls-singly r [] = refl
+calls-singly r (x ∷ xs) =
+    ap (λ (cs : List Call). fromLine (sentBy (stepped r x) .passed) ++ cs) (calls-singly (stepped r x .next) xs)
+
+module _ (b : Board) (i : InBoard b) (xs : List ℕ) where
+  cs : callsIn (b .receiver) (singly xs) ≡ calls (b .receiver) xs
+  cs = calls-singly (b .receiver) xs
+
+  pub handed-is : (m : Module) → Outside m → handed m b xs ≡ toEach m (frontOf b) xs
+  handed-is m u = apart (singly xs) b i .handed m u ∙ ap (got m (b .links)) cs
+
+  pub asked-is : asked b xs ≡ asks (frontOf b) xs
+  asked-is =
+      apart (singly xs) b i .asked ∙ ap (λ (hs : List Heard). allAsked (sent (b .receiver) hs)) (heard-singly xs)
+
+  yields-is : yields b xs ≡ needed (frontOf b) xs
+  yields-is = simp (handed-is Keyboard tt, handed-is Modem tt, handed-is Socket tt, asked-is)
+
+  run-is : run b (singly xs) ≡ heardWhole b xs
+  run-is =
+      let a = apart (singly xs) b i in
+      let r = a .receiver ∙ ap (receiverRun (b .receiver)) (heard-singly xs) in
+      let l = a .links ∙ ap (linksRun (b .links)) cs in
+      let s = a .screen ∙ ap (λ (ds : List Call). ran (b .screen) (got Screen (b .links) ds) .screen) cs in
+      ap₂ (λ (x : Receiver) (y : Links). record { receiver = x; links = y; screen = run b (singly xs) .screen }) r l
+      ∙ ap (λ (t : Page). record { receiver = heardWhole b xs .receiver; links = heardWhole b xs .links; screen = t }) s
+
+  -- ---- what the call answers
+
+  module _ (r : Room) where
+    tested-is : within (yields b xs) r ≡ within (needed (frontOf b) xs) r
+    tested-is = ap (λ (n : Room). within n r) yields-is
+
+    pub taken-is : inRange b ≡ true → within (needed (frontOf b) xs) r ≡ true → played b xs ≡ linesOf b xs r
+    unfolding played linesOf
+    taken-is e w =
+        ap₂ (λ (c : Board) (n : Room). passage c Taken n) (sym run-is) (sym yields-is)
+        ∙ sym (ap₂ (λ (t u : Bool). cond t
+        (cond u (passage (run b (singly xs)) Taken (yields b xs)) (refused b NoRoom)) (refused b Broken))
+        e (tested-is ∙ w))
+
+    pub short-is : inRange b ≡ true → within (needed (frontOf b) xs) r ≡ false → refused b NoRoom ≡ linesOf b xs r
+    unfolding linesOf
+    short-is e w =
+        sym (ap₂ (λ (t u : Bool). cond t
+        (cond u (passage (run b (singly xs)) Taken (yields b xs)) (refused b NoRoom)) (refused b Broken))
+        e (tested-is ∙ w))
+
+    pub is-taken : (t : Bool) → inRange b ≡ true → within (needed (frontOf b) xs) r ≡ t → isTaken b xs r ≡ t
+    unfolding isTaken
+    is-taken t e w = ap₂ (λ (u v : Bool). u && v) e (tested-is ∙ w)
+
+-- a broken board takes nothing, whatever the room
+pub broken-is : (b : Board) (xs : List ℕ) (r : Room) → inRange b ≡ false
+    → (refused b Broken ≡ linesOf b xs r) × (isTaken b xs r ≡ false)
+unfolding linesOf isTaken
+broken-is b xs r e = (
+  sym (ap (λ (t : Bool). cond t
+      (cond (within (yields b xs) r) (passage (run b (singly xs)) Taken (yields b xs)) (refused b NoRoom))
+      (refused b Broken)) e),
+  ap (λ (t : Bool). t && within (yields b xs) r) e,
+)

@@ -1,0 +1,28 @@
+use Rattle.receiver.proofs.Asked.{asked-counted}
+use Rattle.pieces.specs.Hearing.{heardBy}
+use borrow.Author.Needs.{needs}
+use Rattle.pieces.proofs.front.hear.Statement.{statement}
+use Rattle.pieces.proofs.front.hear.Tie as tie
+
+-- src/front.rt:27:9
+step-requires : tie.Need-step-requires
+step-requires c κs = search needs
+
+-- src/front.rt:29:9
+feed-requires : tie.Need-feed-requires
+feed-requires c κs = search needs
+
+-- src/front.rt:23:1
+returns : tie.Need-returns
+unfolding heardBy
+returns c =
+    let f = c .before .before .before .before in
+    let s = f .before .before .step in
+    let a = f .before .before .before .before .args in (
+      simp (f .feed .ensures .0, s .ensures),
+      f .feed .ensures .1,
+      simp (s .ensures) (asked-counted (a .front .receiver) (a .byte) .0),
+    )
+
+pub hear-spec : {M : Type 1} → statement M
+hear-spec = tie.close (tie.spec step-requires feed-requires returns)

@@ -1,0 +1,78 @@
+// Whether there is room for what a piece yields: it is heard once for that alone.
+ghost use mathlib.Core.Path.{_≡_};
+ghost use Rattle.pieces.specs.Pieces.{within};
+ghost use Rattle.pieces.specs.Hearing.{needsOf, leftOver, needed};
+use crate::front::Front;
+use crate::front::Heard;
+use crate::front::hear;
+
+// Bytes for each output: those that there is room for, or those written.
+pub(crate) struct Room {
+    pub keyboard: usize,
+    pub modem: usize,
+    pub socket: usize,
+    pub requests: usize,
+}
+
+// What is left of the room behind a byte.
+pub(crate) enum Left {
+    Enough(Room),
+    Short,
+}
+
+// The room that one byte takes.
+fn needs(heard: Heard) -> Room
+    ensures { λ r. ⌜ r ≡ needsOf heard ⌝ }
+{
+    let shares = heard.shares;
+    let keyboard = shares.keyboard;
+    let modem = shares.modem;
+    let socket = shares.socket;
+    Room {
+        keyboard: keyboard.count,
+        modem: modem.count,
+        socket: socket.count,
+        requests: heard.asked,
+    }
+}
+
+fn spend(room: Room, need: Room) -> Left
+    ensures { λ r. ⌜ r ≡ leftOver «room» need ⌝ }
+{
+    if need.keyboard <= room.keyboard {
+        if need.modem <= room.modem {
+            if need.socket <= room.socket {
+                if need.requests <= room.requests {
+                    return Left::Enough(Room {
+                        keyboard: room.keyboard - need.keyboard,
+                        modem: room.modem - need.modem,
+                        socket: room.socket - need.socket,
+                        requests: room.requests - need.requests,
+                    });
+                }
+            }
+        }
+    }
+    Left::Short
+}
+
+pub(crate) fn fits(start: Front, piece: &[u8], room: Room) -> bool
+    ensures { λ r. ⌜ r ≡ within (needed start (now (piece .entry))) «room» ⌝ }
+{
+    let mut front = start;
+    let mut left = room;
+    let mut i: usize = 0;
+    while i < piece.len() {
+        let heard = hear(front, piece[i]);
+        let spent = spend(left, needs(heard));
+        match spent {
+            Left::Enough(rest) => {
+                left = rest;
+            }
+            Left::Short => return false,
+        }
+        front = heard.front;
+        i += 1;
+    }
+    true
+}
