@@ -29,8 +29,14 @@ fn is_sent(block: &[u8; 17]) -> bool {
     true
 }
 
-// The counts with one more block judged. There are not as many patterns as a u64 counts.
-fn judged(arrived: [u8; 17], counts: Counts) -> Counts {
+// Writes a number and what stands after it; false where it could not be written.
+fn put(fd: i32, number: u64, after: &[u8]) -> bool {
+    io::print_decimal(fd, number);
+    io::write_all(fd, after)
+}
+
+// The counts with one more block judged, in which n bits are upset. There are not as many patterns as a u64 counts.
+fn judged(arrived: [u8; 17], n: u64, counts: Counts) -> Counts {
     let mut block = arrived;
     let mut c = counts;
     c.patterns = std::num::wrapping_add_u64(c.patterns, 1);
@@ -45,29 +51,21 @@ fn judged(arrived: [u8; 17], counts: Counts) -> Counts {
         }
         _ => c.refused = std::num::wrapping_add_u64(c.refused, 1),
     }
+    if c.patterns % PIECE == 0 {
+        io::write_all(2, b".. ");
+        put(2, c.patterns, b" patterns of ");
+        put(2, n, b" upset bits judged\n");
+    }
     c
-}
-
-// Writes how far the count of patterns of n upset bits is.
-fn tell(n: u64, patterns: u64) {
-    io::write_all(2, b".. ");
-    io::print_decimal(2, patterns);
-    io::write_all(2, b" patterns of ");
-    io::print_decimal(2, n);
-    io::write_all(2, b" upset bits judged\n");
 }
 
 // The counts with each block judged that has `left` more bits upset, different ones from bit `from` on; n bits are
 // upset in all.
 fn tally(block: [u8; 17], from: usize, left: u64, n: u64, counts: Counts) -> Counts {
-    let mut c = counts;
     if left == 0 {
-        c = judged(block, c);
-        if c.patterns % PIECE == 0 {
-            tell(n, c.patterns);
-        }
-        return c;
+        return judged(block, n, counts);
     }
+    let mut c = counts;
     let mut k = from;
     while k < 136 {
         let mut hit = block;
@@ -80,18 +78,12 @@ fn tally(block: [u8; 17], from: usize, left: u64, n: u64, counts: Counts) -> Cou
 
 // Writes the line for n upset bits; false where it could not be written.
 fn write_line(n: u64, c: Counts) -> bool {
-    io::print_decimal(1, n);
-    io::write_all(1, b" ");
-    io::print_decimal(1, c.patterns);
-    io::write_all(1, b" ");
-    io::print_decimal(1, c.clean);
-    io::write_all(1, b" ");
-    io::print_decimal(1, c.back);
-    io::write_all(1, b" ");
-    io::print_decimal(1, c.other);
-    io::write_all(1, b" ");
-    io::print_decimal(1, c.refused);
-    io::write_all(1, b"\n")
+    put(1, n, b" ");
+    put(1, c.patterns, b" ");
+    put(1, c.clean, b" ");
+    put(1, c.back, b" ");
+    put(1, c.other, b" ");
+    put(1, c.refused, b"\n")
 }
 
 // Up to how many upset bits the argument asks for; 0 where it is wrong.

@@ -7,7 +7,6 @@ use Rattle.tally.proofs.tally.Reads as tally
 use Rattle.tally.proofs.tally.Kinds as tally-kinds
 use Rattle.tally.proofs.+tally.Lts-tally as tally-lts
 use Rattle.tally.proofs.judged.Reads as judged-reads
-use Rattle.tally.proofs.tell.Reads as tell-reads
 use Rattle.validity.proofs.flip.Reads as flip-reads
 use Rattle.tally.proofs.+tally.{statement}
 use Rattle.tally.proofs.+tally.Tie.{close}
@@ -30,8 +29,6 @@ tally-μ-loop block from left n c₀ k₀ c k = 136 - k
 tally-judged-requires : (t : ℕ) → tally-lts.Need-judged-requires (
   judged-reads.Asked,
   judged-reads.Learnt,
-  tell-reads.Asked,
-  tell-reads.Learnt,
   flip-reads.Asked,
   flip-reads.Learnt,
   tally-below t,
@@ -39,23 +36,9 @@ tally-judged-requires : (t : ℕ) → tally-lts.Need-judged-requires (
 ) (tally-at t) tally.Post tally-Inv-loop tally-μ-loop
 tally-judged-requires t c κs = search needs
 
-tally-tell-requires : (t : ℕ) → tally-lts.Need-tell-requires (
-  judged-reads.Asked,
-  judged-reads.Learnt,
-  tell-reads.Asked,
-  tell-reads.Learnt,
-  flip-reads.Asked,
-  flip-reads.Learnt,
-  tally-below t,
-  tally.Post,
-) (tally-at t) tally.Post tally-Inv-loop tally-μ-loop
-tally-tell-requires t c κs = search needs
-
 tally-returns : (t : ℕ) → tally-lts.Need-returns (
   judged-reads.Asked,
   judged-reads.Learnt,
-  tell-reads.Asked,
-  tell-reads.Learnt,
   flip-reads.Asked,
   flip-reads.Learnt,
   tally-below t,
@@ -63,23 +46,9 @@ tally-returns : (t : ℕ) → tally-lts.Need-returns (
 ) (tally-at t) tally.Post tally-Inv-loop tally-μ-loop
 tally-returns t c = search needs
 
-tally-returns-2 : (t : ℕ) → tally-lts.Need-returns-2 (
-  judged-reads.Asked,
-  judged-reads.Learnt,
-  tell-reads.Asked,
-  tell-reads.Learnt,
-  flip-reads.Asked,
-  flip-reads.Learnt,
-  tally-below t,
-  tally.Post,
-) (tally-at t) tally.Post tally-Inv-loop tally-μ-loop
-tally-returns-2 t c = search needs
-
 tally-loop-holds : (t : ℕ) → tally-lts.Need-loop-holds (
   judged-reads.Asked,
   judged-reads.Learnt,
-  tell-reads.Asked,
-  tell-reads.Learnt,
   flip-reads.Asked,
   flip-reads.Learnt,
   tally-below t,
@@ -90,8 +59,6 @@ tally-loop-holds t c = search needs
 tally-slice-aggregate-flip : (t : ℕ) → tally-lts.Need-slice-aggregate-flip (
   judged-reads.Asked,
   judged-reads.Learnt,
-  tell-reads.Asked,
-  tell-reads.Learnt,
   flip-reads.Asked,
   flip-reads.Learnt,
   tally-below t,
@@ -102,8 +69,6 @@ tally-slice-aggregate-flip t c = search needs
 tally-flip-requires : (t : ℕ) → tally-lts.Need-flip-requires (
   judged-reads.Asked,
   judged-reads.Learnt,
-  tell-reads.Asked,
-  tell-reads.Learnt,
   flip-reads.Asked,
   flip-reads.Learnt,
   tally-below t,
@@ -114,8 +79,6 @@ tally-flip-requires t c κs = search needs
 tally-add-tally : (t : ℕ) → tally-lts.Need-add-tally (
   judged-reads.Asked,
   judged-reads.Learnt,
-  tell-reads.Asked,
-  tell-reads.Learnt,
   flip-reads.Asked,
   flip-reads.Learnt,
   tally-below t,
@@ -126,8 +89,6 @@ tally-add-tally t c = search needs
 tally-sub-tally : (t : ℕ) → tally-lts.Need-sub-tally (
   judged-reads.Asked,
   judged-reads.Learnt,
-  tell-reads.Asked,
-  tell-reads.Learnt,
   flip-reads.Asked,
   flip-reads.Learnt,
   tally-below t,
@@ -138,8 +99,6 @@ tally-sub-tally t c = search needs
 tally-tally-requires : (t : ℕ) → tally-lts.Need-tally-requires (
   judged-reads.Asked,
   judged-reads.Learnt,
-  tell-reads.Asked,
-  tell-reads.Learnt,
   flip-reads.Asked,
   flip-reads.Learnt,
   tally-below t,
@@ -150,8 +109,6 @@ tally-tally-requires t c κs = search needs
 tally-add-k : (t : ℕ) → tally-lts.Need-add-k (
   judged-reads.Asked,
   judged-reads.Learnt,
-  tell-reads.Asked,
-  tell-reads.Learnt,
   flip-reads.Asked,
   flip-reads.Learnt,
   tally-below t,
@@ -162,8 +119,6 @@ tally-add-k t c = search needs
 tally-loop-less : (t : ℕ) → tally-lts.Need-loop-less (
   judged-reads.Asked,
   judged-reads.Learnt,
-  tell-reads.Asked,
-  tell-reads.Learnt,
   flip-reads.Asked,
   flip-reads.Learnt,
   tally-below t,
@@ -174,8 +129,6 @@ tally-loop-less t c = search needs
 tally-loop-again : (t : ℕ) → tally-lts.Need-loop-again (
   judged-reads.Asked,
   judged-reads.Learnt,
-  tell-reads.Asked,
-  tell-reads.Learnt,
   flip-reads.Asked,
   flip-reads.Learnt,
   tally-below t,
@@ -183,24 +136,20 @@ tally-loop-again : (t : ℕ) → tally-lts.Need-loop-again (
 ) (tally-at t) tally.Post tally-Inv-loop tally-μ-loop
 tally-loop-again t c = search needs
 
-tally-returns-3 : (t : ℕ) → tally-lts.Need-returns-3 (
+tally-returns-2 : (t : ℕ) → tally-lts.Need-returns-2 (
   judged-reads.Asked,
   judged-reads.Learnt,
-  tell-reads.Asked,
-  tell-reads.Learnt,
   flip-reads.Asked,
   flip-reads.Learnt,
   tally-below t,
   tally.Post,
 ) (tally-at t) tally.Post tally-Inv-loop tally-μ-loop
-tally-returns-3 t c = search needs
+tally-returns-2 t c = search needs
 
 pub +tally-spec : {M : Type 1} → statement M
 +tally-spec = close μ-tally λ t. tally-lts.spec (
   judged-reads.Asked,
   judged-reads.Learnt,
-  tell-reads.Asked,
-  tell-reads.Learnt,
   flip-reads.Asked,
   flip-reads.Learnt,
   tally-below t,
@@ -211,9 +160,7 @@ pub +tally-spec : {M : Type 1} → statement M
     tally-Inv-loop
     tally-μ-loop
     (tally-judged-requires t)
-    (tally-tell-requires t)
     (tally-returns t)
-    (tally-returns-2 t)
     (tally-loop-holds t)
     (tally-slice-aggregate-flip t)
     (tally-flip-requires t)
@@ -223,4 +170,4 @@ pub +tally-spec : {M : Type 1} → statement M
     (tally-add-k t)
     (tally-loop-less t)
     (tally-loop-again t)
-    (tally-returns-3 t)
+    (tally-returns-2 t)
