@@ -1,13 +1,13 @@
 // Demand 3: what is handed on is the only valid block within one changed code bit of what arrived; a repeat is
 // asked exactly when there is none. A valid block hit once comes back whole; hit at any two of its 136 bits it is
-// refused.
+// refused. What more hits can do is the same for every block.
 ghost use mathlib.Core.Path.{_≡_};
-ghost use mathlib.Core.List.{List, _∷_, _++_};
+ghost use mathlib.Core.List.{List, [], _∷_, _++_};
 ghost use mathlib.Core.Logic.{_↔_};
-ghost use Prim.Native.Nat.{ℕ, _≤_, _<_};
+ghost use Prim.Native.Nat.{ℕ, _%_, _≤_, _<_};
 ghost use lib.ListN.{length, replicate};
 ghost use Rattle.validity.specs.Block.{Valid, Bytes};
-ghost use Rattle.validity.specs.Changed.{flip, distance};
+ghost use Rattle.validity.specs.Changed.{flip, hits, Places, distance};
 ghost use Rattle.reader.specs.declared.Verdict.the-variants.{Clean, Mended, Repeat};
 ghost use Rattle.reader.specs.Judging.{verdict, left, mendable};
 ghost use Rattle.reader.specs.Claims.{NoneNear, OnlyNear};
@@ -25,13 +25,31 @@ pub fn hit_once_comes_back_whole()
         → (verdict (flip k W) ≡ Mended k) × (left (flip k W) ≡ W)) ⌝ }
 {}
 
-// A valid block hit at any two different bits of all 136 is refused and left as it came; hit at three it is never
-// clean.
+// A valid block hit at any two different bits of all 136 is refused and left as it came.
 pub fn hit_twice_is_refused()
-    ensures twice { λ _. ⌜ ((W : List ℕ) (i j : ℕ) → Valid W → i < 136 → j < 136 → (i ≡ j → ⊥)
+    ensures { λ _. ⌜ ((W : List ℕ) (i j : ℕ) → Valid W → i < 136 → j < 136 → (i ≡ j → ⊥)
         → (verdict (flip i (flip j W)) ≡ Repeat) × (left (flip i (flip j W)) ≡ flip i (flip j W))) ⌝ }
-    ensures thrice { λ _. ⌜ ((W : List ℕ) (h i j : ℕ) → Valid W → h < 136 → i < 136 → j < 136
-        → verdict (flip h (flip i (flip j W))) ≡ Clean → ⊥) ⌝ }
+{}
+
+// A valid block hit an odd number of times, at any of its 136 bits, is never clean; hit an even number of times it is
+// never mended. So three hits are mended or refused, and four are clean or refused. That is the best that can be said:
+// every valid block has three bits that, hit, are mended by a fourth, and with the fourth hit too are clean.
+pub fn odd_hits_are_never_clean_even_hits_never_mended()
+    ensures odd { λ _. ⌜ ((W ks : List ℕ) → Valid W → Places ks → length ks % 2 ≡ 1
+        → verdict (hits ks W) ≡ Clean → ⊥) ⌝ }
+    ensures even { λ _. ⌜ ((W ks : List ℕ) → Valid W → Places ks → length ks % 2 ≡ 0
+        → (k : ℕ) → verdict (hits ks W) ≡ Mended k → ⊥) ⌝ }
+    ensures reached { λ _. ⌜ ((W : List ℕ) → Valid W → (verdict (hits (0 ∷ 1 ∷ 90 ∷ []) W) ≡ Mended 94)
+        × (verdict (hits (94 ∷ 0 ∷ 1 ∷ 90 ∷ []) W) ≡ Clean)) ⌝ }
+{}
+
+// Any valid block hit at any bits gets the verdict of seventeen zeros hit at the same bits, and comes back whole
+// exactly when they do: what is counted for the zeros is counted for every block.
+pub fn one_count_holds_for_every_block()
+    ensures judged { λ _. ⌜ ((W ks : List ℕ) → Valid W
+        → verdict (hits ks W) ≡ verdict (hits ks (replicate 17 0))) ⌝ }
+    ensures whole { λ _. ⌜ ((W ks : List ℕ) → Valid W
+        → left (hits ks W) ≡ W ↔ left (hits ks (replicate 17 0)) ≡ replicate 17 0) ⌝ }
 {}
 
 // Two different valid blocks of bytes differ in at least four of their 136 bits. There are two that differ in just

@@ -1,7 +1,7 @@
 -- Laws of parity: it adds up like the bits do, a value with parity is even, and only its seven low bits count.
 -- Assumes nothing.
 use mathlib.Core.Path.{_≡_, refl, sym, ap, ap₂, _∙_}
-use mathlib.Core.Bool.{Bool, true, false, cond}
+use mathlib.Core.Bool.{Bool, true, false, cond, _&&_}
 use mathlib.Core.List.{List, [], _∷_, _++_}
 use Prim.Native.Nat.{ℕ, zero, suc, _+_, _-_, _*_, _/_, _%_, _≤_, _<_}
 use native.Mathlib.Nat.{add-mod, mod-lt, zero-lt-suc}
@@ -17,6 +17,8 @@ use Rattle.laws.proofs.Sums.{Sum, none, more}
 use Rattle.division.specs.Division.{lowBits, bits}
 use Rattle.division.specs.Polynomials.{Digits}
 use Rattle.division.specs.Polynomials
+use Rattle.division.proofs.Bytes.{low-digits}
+use Rattle.division.proofs.Linear.{low-sum}
 use Rattle.parity.specs.Parity.{ones, even, allEven, odds, withParity}
 
 -- ---- ones add up, but for pairs that cancel
@@ -47,6 +49,24 @@ even-ones (a ∷ A) t =
     ap (λ (x : ℕ). x % 2) (ones-append (lowBits 8 a) (bits A)) ∙ add-mod (ones (lowBits 8 a)) (ones (bits A)) 2
     ∙ ap₂ (λ (x y : ℕ). (x + y) % 2) (eqb→eq (ones (lowBits 8 a) % 2) 0 (and-left (even a) (allEven A) t))
     (even-ones A (and-right (even a) (allEven A) t))
+
+-- a sum with an even byte is as even as the other
+beside : (x y : ℕ) → x % 2 ≡ 0 → (x + y) % 2 ≡ y % 2
+beside x y h = omega arith
+
+even-xor : (a b : ℕ) → T (even a) → even (bitXor a b) ≡ even b
+unfolding even
+even-xor a b t =
+    ap (λ (n : ℕ). eqb n 0)
+    (ones-sum (low-sum 8 a b) (low-digits 8 a) (low-digits 8 b)
+    ∙ beside (ones (lowBits 8 a)) (ones (lowBits 8 b)) (eqb→eq (ones (lowBits 8 a) % 2) 0 t))
+
+-- and so with even bytes
+pub all-even-sum : {A B C : List ℕ} → Sum A B C → T (allEven A) → allEven C ≡ allEven B
+unfolding allEven
+all-even-sum none t = refl
+all-even-sum (more {a = a} {b = b} {A = A} s) t =
+    ap₂ _&&_ (even-xor a b (and-left (even a) (allEven A) t)) (all-even-sum s (and-right (even a) (allEven A) t))
 
 -- ---- a value with parity
 

@@ -3,9 +3,9 @@
 -- mendable bits up to 136. Assumes nothing.
 use mathlib.Core.Path.{_≡_, refl, sym, ap, _∙_, subst, subst⁻¹}
 use mathlib.Core.Bool.{Bool, true, false, cond, _&&_, _||_, not, and-false}
-use mathlib.Core.List.{List}
+use mathlib.Core.List.{List, _∷_}
 use mathlib.Core.Logic.{_⊎_, ⊎-elim, _↔_}
-use Prim.Native.Nat.{ℕ, zero, suc, _+_, _≤_, _<_}
+use Prim.Native.Nat.{ℕ, zero, suc, _+_, _%_, _≤_, _<_}
 use native.Mathlib.Nat.{eq-or-lt-of-le}
 use native.Mathlib.Omega.{arith}
 use lib.Dec.{T, eqb}
@@ -14,10 +14,10 @@ use borrow.Author.Tests.{eqb-true, eqb-false, eq-eqb, ne-eqb}
 use Rattle.laws.proofs.Computed.{holds, fails, is-true}
 use Rattle.numbers.specs.Numbers.{numberOf}
 use Rattle.validity.specs.Block.{valid, Valid}
-use Rattle.validity.specs.Changed.{flip, Near, same, changed}
+use Rattle.validity.specs.Changed.{flip, hits, Places, Near, same, changed}
 use Rattle.validity.proofs.Flips.{flip-length, flip-flip}
 use Rattle.validity.proofs.Validity.{valid-length}
-use Rattle.validity.proofs.Alone.{flipped-length, hit-once, hit-twice, hit-thrice, one-place}
+use Rattle.validity.proofs.Alone.{flipped-length, hit-once, hit-twice, hit-thrice, hit-odd, one-place}
 use Rattle.reader.specs.declared.Verdict.{Verdict}
 use Rattle.reader.specs.declared.Verdict.the-variants.{Clean, Mended, Repeat, WrongLength}
 use Rattle.reader.specs.Judging.{mendable, tryFrom, verdict, told, judged, leftBy, left}
@@ -163,11 +163,16 @@ twice-refused W i j v hi hj ne = (e, ap (λ (w : Verdict). leftBy w (flip i (fli
         asked-when-none (flip i (flip j W)) (flip-length i (flip j W) ∙ flip-length j W ∙ valid-length W v) .1
         (λ C n w. go n w)
 
--- one hit at any three is never clean
-pub thrice-not-clean : (W : List ℕ) (h i j : ℕ) → Valid W → h < 136 → i < 136 → j < 136
-    → verdict (flip h (flip i (flip j W))) ≡ Clean → ⊥
-thrice-not-clean W h i j v lh li lj e =
-    hit-thrice h i j W lh li lj v (subst (Right (flip h (flip i (flip j W)))) e (is-right (flip h (flip i (flip j W)))))
+-- hit an odd number of times it is never clean, and hit an even number of times never mended
+pub odd-not-clean : (W ks : List ℕ) → Valid W → Places ks → length ks % 2 ≡ 1 → verdict (hits ks W) ≡ Clean → ⊥
+odd-not-clean W ks v p o e = hit-odd ks W p o v (subst (Right (hits ks W)) e (is-right (hits ks W)))
+
+pub even-not-mended : (W ks : List ℕ) → Valid W → Places ks → length ks % 2 ≡ 0
+    → (k : ℕ) → verdict (hits ks W) ≡ Mended k → ⊥
+unfolding hits
+even-not-mended W ks v p o k e =
+    let r : Right (hits ks W) (Mended k) = subst (Right (hits ks W)) e (is-right (hits ks W)) in
+    hit-odd (k ∷ ks) W (omega (arith, r .0), p) (omega arith) v (r .1)
 
 -- ---- the number is the paper's
 

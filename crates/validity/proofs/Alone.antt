@@ -15,7 +15,7 @@ use Rattle.division.proofs.Linear.{bits-sum}
 use Rattle.parity.specs.Parity.{ones}
 use Rattle.parity.proofs.Parities.{ones-sum, ones-append, even-ones}
 use Rattle.validity.specs.Block.{Valid}
-use Rattle.validity.specs.Changed.{flip}
+use Rattle.validity.specs.Changed.{flip, hits, Places}
 use Rattle.validity.specs.Units.{unit}
 use Rattle.validity.proofs.Flips.{flip-sum, flip-length}
 use Rattle.validity.proofs.Marks.{mark, mark-sum, mark-inj, unit-odd}
@@ -64,9 +64,23 @@ pub mend-mark : (k : ℕ) (B : List ℕ) → Valid (flip k B) → mark B ≡ mar
 mend-mark k B v =
     xor-zero-eq (mark B) (mark (unit k)) (sym (flip-mark k B (flipped-length k B v)) ∙ valid-mark (flip k B) v)
 
--- a valid block hit once is not valid
+-- each hit turns the parity of all bits
+hits-ones : (ks B : List ℕ) → Places ks → length B ≡ 17
+    → (length (hits ks B) ≡ 17) × (ones (bits (hits ks B)) % 2 ≡ (ones (bits B) + length ks) % 2)
+unfolding hits
+hits-ones [] B p e = (e, omega arith)
+hits-ones (k ∷ ks) B p e =
+    let m = hits-ones ks B (p .1) e in
+    let o = flip-ones k (hits ks B) (p .0) (m .0) in
+    (flip-length k (hits ks B) ∙ m .0, omega arith)
+
+-- a valid block hit an odd number of times is not valid
+pub hit-odd : (ks B : List ℕ) → Places ks → length ks % 2 ≡ 1 → Valid B → Valid (hits ks B) → ⊥
+hit-odd ks B p o v w = omega (arith, hits-ones ks B p (valid-length B v) .1, valid-ones B v, valid-ones (hits ks B) w)
+
 pub hit-once : (k : ℕ) (B : List ℕ) → k < 136 → Valid B → Valid (flip k B) → ⊥
-hit-once k B h v w = omega (arith, flip-ones k B h (valid-length B v), valid-ones B v, valid-ones (flip k B) w)
+unfolding hits
+hit-once k B h v w = hit-odd (k ∷ []) B (h, tt) refl v w
 
 -- hit at two different bits it is not valid
 pub hit-twice : (i j : ℕ) (B : List ℕ) → i < 136 → j < 136 → (i ≡ j → ⊥) → Valid B → Valid (flip i (flip j B)) → ⊥
@@ -78,14 +92,8 @@ hit-twice i j B h k ne v w =
 -- nor at any three
 pub hit-thrice : (h i j : ℕ) (B : List ℕ) → h < 136 → i < 136 → j < 136 → Valid B
     → Valid (flip h (flip i (flip j B))) → ⊥
-hit-thrice h i j B lh li lj v w =
-    let e : length B ≡ 17 = valid-length B v in
-    let e₁ : length (flip j B) ≡ 17 = flip-length j B ∙ e in
-    let e₂ : length (flip i (flip j B)) ≡ 17 = flip-length i (flip j B) ∙ e₁ in
-    let o₁ = flip-ones j B lj e in
-    let o₂ = flip-ones i (flip j B) li e₁ in
-    let o₃ = flip-ones h (flip i (flip j B)) lh e₂ in
-    omega (arith, valid-ones B v, valid-ones (flip h (flip i (flip j B))) w)
+unfolding hits
+hit-thrice h i j B lh li lj v w = hit-odd (h ∷ i ∷ j ∷ []) B (lh, (li, (lj, tt))) refl v w
 
 -- two valid blocks within one changed bit of the same block
 pub one-place : (i j : ℕ) (B : List ℕ) → i < 136 → j < 136 → Valid (flip i B) → Valid (flip j B) → i ≡ j

@@ -3,5 +3,6 @@ pub mod Flips
 pub mod Marks
 pub mod Validity
 pub mod Alone
+pub mod Alike
 pub mod Distance
 pub mod Odd

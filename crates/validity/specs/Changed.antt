@@ -12,6 +12,16 @@ use Rattle.division.specs.Division.{bits}
 unfoldable pub flip : ℕ → List ℕ → List ℕ
 flip k B = set B (k / 8) (bitXor (getD B (k / 8) 0) (2 ^ (k % 8)))
 
+-- the block hit in each of these places: the bit there changed, one after the other
+unfoldable pub hits : List ℕ → List ℕ → List ℕ
+hits [] B = B
+hits (k ∷ ks) B = flip k (hits ks B)
+
+-- each is the place of one of a block's 136 bits
+abbrev pub Places : List ℕ → Type 0
+Places [] = Unit {0}
+Places (k ∷ ks) = (k < 136) × Places ks
+
 -- C is B, or B with one of its first n bits changed
 pub data Near (n : ℕ) (B : List ℕ) : List ℕ → Type 0 where
   same : Near n B B
