@@ -2,10 +2,9 @@
 use mathlib.Core.Path.{_≡_, refl, sym, ap, ap₂, _∙_, subst, subst⁻¹}
 use mathlib.Core.List.{List, [], _∷_, _++_, append-nil, append-assoc}
 use Prim.Native.Nat.{ℕ, _-_}
-use lib.ListN.{take, replicate, length}
+use lib.ListN.{replicate, length}
 use lib.Seq.{take-append-seam}
 use Rattle.receiver.specs.declared.Receiver.{Receiver}
-use Rattle.receiver.specs.declared.Stepped.{Stepped}
 use Rattle.receiver.specs.Runs.{Event as Heard, byte, on, off, ask, obey as receiverObey, sentBy}
 use Rattle.receiver.specs.Runs.{run as receiverRun, Sent, sent, allAsked}
 use Rattle.receiver.proofs.Kept.{keeps, run-append as heard-append, sent-append}
@@ -102,7 +101,8 @@ call-alone c b i =
             links = run-kept (b .links) (c ∷ []) (i .links);
             screen =
                 subst⁻¹ (λ (vs : List ℕ). InScreen (ran (b .screen) vs .screen)) shown
-                (ran-in (b .screen) (got Screen (b .links) (c ∷ [])) (i .screen) (small-got Screen (b .links) (c ∷ [])));
+                (ran-in (b .screen) (got Screen (b .links) (c ∷ [])) (i .screen)
+                (small-got Screen (b .links) (c ∷ [])));
           };
     })
 
@@ -167,7 +167,8 @@ apart (key v ∷ es) b i =
     further i f (subst (Rest (obey (key v) b .next) es) (f .receiver) (apart es (obey (key v) b .next) (f .range)))
 apart (socket v ∷ es) b i =
     let f = call-alone (value fromSocket v) b i in
-    further i f (subst (Rest (obey (socket v) b .next) es) (f .receiver) (apart es (obey (socket v) b .next) (f .range)))
+    further i f
+    (subst (Rest (obey (socket v) b .next) es) (f .receiver) (apart es (obey (socket v) b .next) (f .range)))
 apart (toLocal ∷ es) b i =
     let f = call-alone localCall b i in
     further i f (subst (Rest (obey toLocal b .next) es) (f .receiver) (apart es (obey toLocal b .next) (f .range)))

@@ -1,7 +1,6 @@
 -- The test that the calls make passes just the boards whose parts are in range. Assumes nothing.
 use mathlib.Core.Path.{_≡_}
-use mathlib.Core.Bool.{Bool, true, false, _&&_, not}
-use lib.Dec.{T}
+use mathlib.Core.Bool.{true, _&&_, not}
 use lib.ListN.{length}
 use Rattle.laws.proofs.Computed.{and-left, and-right, holds, is-true}
 use Rattle.receiver.specs.States.{inRange as receiverInRange}

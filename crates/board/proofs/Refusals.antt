@@ -6,12 +6,9 @@ use lib.Dec.{eqb}
 use Rattle.laws.proofs.Computed.{and-left, and-right, fails, holds, is-true}
 use Rattle.numbers.specs.Numbers.{Conditions, numberOf, Told}
 use Rattle.receiver.specs.States.{inRange as receiverInRange}
-use Rattle.receiver.specs.Runs.{Event as Heard, byte, on, off, ask}
+use Rattle.receiver.specs.Runs.{byte, on, off, ask}
 use Rattle.links.specs.declared.Ear.the-variants.{Socket as fromSocket}
-use Rattle.links.specs.declared.Answer.the-variants.{TooLarge as tooLargeThere}
-use Rattle.links.specs.declared.Outcome.{Outcome as LinksOutcome}
 use Rattle.links.specs.States.{inRange as linksInRange}
-use Rattle.links.specs.Calls.{refused as linksRefused}
 use Rattle.links.specs.Runs.{Call, key as keyCall, value, toLocal as localCall, toConnected as connectedCall}
 use Rattle.links.specs.Runs.{obey as linksObey, tooLarge as largeCall}
 use Rattle.links.proofs.Refusals.{large as links-large, taken-else}
@@ -22,7 +19,7 @@ use Rattle.board.specs.declared.Board.{Board}
 use Rattle.board.specs.declared.Answer.the-variants.{Taken, TooLarge, Broken}
 use Rattle.board.specs.declared.Outcome.{Outcome}
 use Rattle.board.specs.Boards.{inRange}
-use Rattle.board.specs.Calls.{told, refused, following, answerOf, passing, passedOn}
+use Rattle.board.specs.Calls.{told, refused, following, answerOf, passing}
 use Rattle.board.specs.Runs.{Event, front, key, socket, toLocal, toConnected, obey, tooLarge, callTold}
 
 pub broken : (e : Event) (b : Board) → inRange b ≡ false → obey e b ≡ refused b Broken

@@ -15,7 +15,6 @@ use Rattle.links.specs.declared.Answer.{Answer as LinksAnswer}
 use Rattle.links.specs.declared.Answer.the-variants.{Taken as taken, TooLarge as tooLarge, Broken as broken}
 use Rattle.links.specs.declared.Outcome.{Outcome as LinksOutcome}
 use Rattle.links.specs.Calls.{fromKeyboard, fromSocket, withLocal as linksLocal, withConnected as linksConnected}
-use Rattle.feeding.specs.declared.Outlet.{Outlet}
 use Rattle.feeding.specs.declared.Shares.{Shares}
 use Rattle.feeding.specs.Feeding.{outlet, contents, sharesOf, fed}
 use Rattle.screen.specs.Calls.{ran}

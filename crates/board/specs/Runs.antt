@@ -23,7 +23,8 @@ use Rattle.screen.specs.Calls.{ran}
 use Rattle.board.specs.declared.Board.{Board}
 use Rattle.board.specs.declared.Outcome.{Outcome}
 use Rattle.board.specs.Boards.{inRange}
-use Rattle.board.specs.Calls.{atLine, switchedOn, switchedOff, askedAgain, atKey, atSocket, withLocal, withConnected}
+use Rattle.board.specs.Calls.{atLine, switchedOn, switchedOff, askedAgain}
+use Rattle.board.specs.Calls.{atKey, atSocket, withLocal, withConnected}
 
 -- ---- calls
 
@@ -115,7 +116,8 @@ pub record InBoard (b : Board) : Type 0 where
 
 -- from one board to another each part goes its own way: the receiver by what it hears, the links by their calls, the
 -- screen by what the links send it; these bytes are handed out, and these asked of the modem
-pub record Goes (b after : Board) (hs : List Heard) (cs : List Call) (outs : Module → List ℕ) (qs : List ℕ) : Type 0 where
+pub record Goes (b after : Board) (hs : List Heard) (cs : List Call) (outs : Module → List ℕ) (qs : List ℕ)
+    : Type 0 where
   pub receiver : after .receiver ≡ receiverRun (b .receiver) hs
   pub links : after .links ≡ linksRun (b .links) cs
   pub screen : after .screen ≡ ran (b .screen) (got Screen (b .links) cs) .screen

@@ -10,7 +10,7 @@
 // shows that each part goes its own way in every run.
 ghost use mathlib.Core.Path.{_≡_};
 ghost use Prim.Native.Nat.{_≤_};
-ghost use Rattle.feeding.specs.Feeding.{contents};
+ghost use Rattle.feeding.specs.Feeding.{contents, Enough};
 ghost use Rattle.screen.specs.Calls.{ran};
 ghost use Rattle.board.specs.Boards.{freshBoard, inRange};
 ghost use Rattle.board.specs.Calls.{refused, joined, following, answerOf, passing};
@@ -128,7 +128,7 @@ impl Board {
         request: [u8; 2],
         asked: usize,
     ) -> Outcome
-        requires { ⌜ shares .screen .count ≤ 75 ⌝ }
+        requires { ⌜ Enough shares ⌝ }
         ensures { λ r. ⌜ r ≡ joined self receiver links shares answer request asked ⌝ }
     {
         let screen = show(self.screen, shares.screen);

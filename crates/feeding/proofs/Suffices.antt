@@ -1,7 +1,7 @@
 -- Runs of the links, call by call: what a module gets, and that it is at most five bytes for each call. Assumes
 -- nothing.
-use mathlib.Core.Path.{_≡_, refl, sym, ap, ap₂, _∙_}
-use mathlib.Core.List.{List, [], _∷_, _++_, map, append-assoc, append-nil}
+use mathlib.Core.Path.{_≡_, refl, sym, ap, _∙_}
+use mathlib.Core.List.{List, [], _∷_, _++_, append-assoc, append-nil}
 use Prim.Native.Nat.{ℕ, _+_, _*_, _≤_, _<_}
 use native.Mathlib.Numerals.{add-one}
 use native.Mathlib.Omega.{arith}
@@ -16,7 +16,7 @@ use Rattle.links.specs.declared.Ear.the-variants.{Modem as modem}
 use Rattle.links.specs.Calls.{fromModem}
 use Rattle.links.specs.Runs.{Call, value, obey, given, run}
 use Rattle.links.proofs.Few.{few}
-use Rattle.feeding.specs.Feeding.{fromLine, got, sharesOf, gathered}
+use Rattle.feeding.specs.Feeding.{fromLine, got, sharesOf, fed, Enough, gathered}
 use Rattle.feeding.proofs.Outlets.{taken-most, gathers}
 
 -- ---- some calls, then others
@@ -112,3 +112,10 @@ suffices m l vs n h =
     let few = few-got m l (fromLine (take n vs)) in
     let same = length-map (take n vs) (value modem) in
     let less = taken-most n vs in omega (arith, few, same, less)
+
+pub enough : (l : Links) (vs : List ℕ) → length vs ≤ 15 → Enough (fed l vs .shares)
+unfolding fed
+enough l vs h =
+    let at : (m : Module) → length (got m l (fromLine vs)) ≤ 75 =
+    λ m. omega (arith, few-got m l (fromLine vs), length-map vs (value modem)) in
+    record { screen = at Screen; keyboard = at Keyboard; modem = at Modem; socket = at Socket }

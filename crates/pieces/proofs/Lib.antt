@@ -2,3 +2,4 @@ pub mod Onwards
 pub mod Rooms
 pub mod SoFar
 pub mod Single
+pub mod Numbered

@@ -3,12 +3,12 @@ use mathlib.Core.Path.{_≡_, refl, sym, ap, ap₂, _∙_}
 use mathlib.Core.List.{List, [], _∷_, _++_, append-assoc, append-nil}
 use Prim.Native.Nat.{ℕ, _+_, _<_}
 use native.Mathlib.Numerals.{add-one}
-use lib.ListN.{length, take, drop, getD, take-append-drop}
+use lib.ListN.{length, take, getD}
 use lib.Seq.{take-suc}
 use Rattle.wiring.specs.declared.Module.{Module}
 use Rattle.receiver.specs.declared.Receiver.{Receiver}
 use Rattle.receiver.specs.Calls.{stepped}
-use Rattle.receiver.specs.Runs.{Event, byte, run as receiverRun, Sent, sentBy, sent, allAsked}
+use Rattle.receiver.specs.Runs.{Event, byte, run as receiverRun, sentBy, sent, allAsked}
 use Rattle.receiver.proofs.Kept.{run-append as heard-append, sent-append}
 use Rattle.links.specs.declared.Links.{Links}
 use Rattle.links.specs.Runs.{Call, run as linksRun}
@@ -72,7 +72,9 @@ module _ (f : Front) (xs : List ℕ) (i : ℕ) (h : i < length xs) where
   behind-one =
       let g = behind f (take i xs) in
       ap (behind f) next ∙ behind-append f (take i xs) (getD xs i 0 ∷ [])
-      ∙ ap (λ (cs : List Call). record { receiver = stepped (g .receiver) (getD xs i 0) .next; links = linksRun (g .links) cs })
+      ∙ ap
+      (λ (cs : List Call).
+      record { receiver = stepped (g .receiver) (getD xs i 0) .next; links = linksRun (g .links) cs })
       (append-nil (fromLine (sentBy (stepped (g .receiver) (getD xs i 0)) .passed)))
 
   pub each-one : (m : Module)
@@ -89,4 +91,5 @@ module _ (f : Front) (xs : List ℕ) (i : ℕ) (h : i < length xs) where
   asks-one =
       let g = behind f (take i xs) in
       ap (asks f) next ∙ asks-append f (take i xs) (getD xs i 0 ∷ [])
-      ∙ ap (λ (qs : List ℕ). asks f (take i xs) ++ qs) (append-nil (sentBy (stepped (g .receiver) (getD xs i 0)) .asked))
+      ∙ ap (λ (qs : List ℕ). asks f (take i xs) ++ qs)
+      (append-nil (sentBy (stepped (g .receiver) (getD xs i 0)) .asked))

@@ -1,7 +1,6 @@
 -- How far a piece is played, and what one byte more brings to the outputs and the screen. Assumes nothing.
-use mathlib.Core.Path.{_≡_, refl, sym, ap, ap₂, _∙_}
-use mathlib.Core.Bool.{true}
-use mathlib.Core.List.{List, [], _++_, append-assoc}
+use mathlib.Core.Path.{_≡_, sym, ap, ap₂, _∙_}
+use mathlib.Core.List.{List, _++_}
 use Prim.Native.Nat.{ℕ, _+_, _-_, _≤_, _<_}
 use native.Mathlib.Omega.{arith}
 use lib.ListN.{length, take, drop, getD, replicate, length-append, length-drop}
@@ -22,10 +21,10 @@ use Rattle.screen.proofs.Given.{ran-none, run-parts}
 use Rattle.pieces.specs.declared.front.Front.{Front}
 use Rattle.pieces.specs.declared.front.Heard.{Heard}
 use Rattle.pieces.specs.declared.room.Room.{Room}
-use Rattle.pieces.specs.Pieces.{roomIn, within, leftIn}
+use Rattle.pieces.specs.Pieces.{roomIn}
 use Rattle.pieces.specs.Hearing.{heardBy, behind, calls, toEach, asks, needed, needsOf, more}
 use Rattle.pieces.proofs.Onwards.{brings, requests, behind-one, each-one, asks-one}
-use Rattle.pieces.proofs.Rooms.{Fits, tested, beginning, one-more}
+use Rattle.pieces.proofs.Rooms.{Fits, beginning, one-more}
 
 -- bytes at the beginning of an output
 abbrev pub begins : List ℕ → List ℕ → List ℕ
@@ -81,7 +80,8 @@ pub asked-for : (f : Front) (xs : List ℕ) (i : ℕ) → i < length xs → (out
 unfolding requests
 asked-for f xs i h out =
     let s = stepped (behind f (take i xs) .receiver) (getD xs i 0) in
-    further (asks f (take i xs)) (s .request) out (s .asked) (asked-counted (behind f (take i xs) .receiver) (getD xs i 0) .1)
+    further (asks f (take i xs)) (s .request) out (s .asked)
+    (asked-counted (behind f (take i xs) .receiver) (getD xs i 0) .1)
     ∙ ap (λ (vs : List ℕ). begins vs out) (sym (asks-one f xs i h))
 
 pub shown : (f : Front) (s : Page) (xs : List ℕ) (i : ℕ) → i < length xs → InScreen s
@@ -103,7 +103,8 @@ pub long : {f : Front} {s : Page} {xs k m p q : List ℕ} {i : ℕ} {g : Front} 
     → (length k′ ≡ length k) × (length m′ ≡ length m) × (length p′ ≡ length p) × (length q′ ≡ length q)
 long {f} {s} {xs} {k} {m} {p} {q} {i} now fits =
     let b = beginning f xs i in (
-      ap length (now .keyboard) ∙ as-long (toEach Keyboard f (take i xs)) k (omega (arith, b .keyboard, fits .keyboard)),
+      ap length (now .keyboard)
+          ∙ as-long (toEach Keyboard f (take i xs)) k (omega (arith, b .keyboard, fits .keyboard)),
       ap length (now .modem) ∙ as-long (toEach Modem f (take i xs)) m (omega (arith, b .modem, fits .modem)),
       ap length (now .socket) ∙ as-long (toEach Socket f (take i xs)) p (omega (arith, b .socket, fits .socket)),
       ap length (now .asked) ∙ as-long (asks f (take i xs)) q (omega (arith, b .requests, fits .requests)),
@@ -130,15 +131,16 @@ module _ {f : Front} {s : Page} {xs k m p q : List ℕ} {i : ℕ} {g : Front} {t
       → paste out at (share .codes) (share .count) ≡ begins (toEach to f (take (i + 1) xs)) before
   output to out at share before e a b =
       ap₂ (λ (x : List ℕ) (j : ℕ). paste x j (share .codes) (share .count)) e a
-      ∙ ap (λ (o : Outlet). paste (begins (toEach to f (take i xs)) before) (length (toEach to f (take i xs))) (o .codes)
-      (o .count)) b
+      ∙ ap (λ (o : Outlet). paste (begins (toEach to f (take i xs)) before) (length (toEach to f (take i xs)))
+      (o .codes) (o .count)) b
       ∙ written to f xs i less before
 
   pub next-keyboard : paste k′ (n .keyboard) (h .shares .keyboard .codes) (h .shares .keyboard .count)
       ≡ begins (toEach Keyboard f (take (i + 1) xs)) k
   unfolding heardBy fed brings
   next-keyboard =
-      output Keyboard k′ (n .keyboard) (h .shares .keyboard) k (now .keyboard) (ap (λ (r : Room). r .keyboard) (now .used))
+      output Keyboard k′ (n .keyboard) (h .shares .keyboard) k (now .keyboard)
+      (ap (λ (r : Room). r .keyboard) (now .used))
       (ap (λ (e : Heard). e .shares .keyboard) heard)
 
   pub next-modem : paste m′ (n .modem) (h .shares .modem .codes) (h .shares .modem .count)
@@ -158,8 +160,10 @@ module _ {f : Front} {s : Page} {xs k m p q : List ℕ} {i : ℕ} {g : Front} {t
   pub next-asked : paste q′ (n .requests) (h .request) (h .asked) ≡ begins (asks f (take (i + 1) xs)) q
   unfolding heardBy
   next-asked =
-      ap₂ (λ (x : List ℕ) (j : ℕ). paste x j (h .request) (h .asked)) (now .asked) (ap (λ (r : Room). r .requests) (now .used))
-      ∙ ap (λ (e : Heard). paste (begins (asks f (take i xs)) q) (length (asks f (take i xs))) (e .request) (e .asked)) heard
+      ap₂ (λ (x : List ℕ) (j : ℕ). paste x j (h .request) (h .asked)) (now .asked)
+      (ap (λ (r : Room). r .requests) (now .used))
+      ∙ ap (λ (e : Heard). paste (begins (asks f (take i xs)) q) (length (asks f (take i xs))) (e .request) (e .asked))
+      heard
       ∙ asked-for f xs i less q
 
   -- ---- the screen

@@ -94,3 +94,6 @@ linesConditions b xs r =
       noRoom = not (within (yields b xs) r);
       repeat = false;
     }
+
+abbrev pub linesTold : Board → List ℕ → Room → Told
+linesTold b xs r = record { number = numberOf (linesConditions b xs r); named = [] }

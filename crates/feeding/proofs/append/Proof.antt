@@ -1,3 +1,4 @@
+-- `feeding::append` meets its contract. Assumes nothing.
 use mathlib.Core.Path.{_≡_, sym, ap, _∙_}
 use mathlib.Core.List.{List}
 use Prim.Native.Nat.{ℕ, _+_, _-_, _≤_}
@@ -18,37 +19,34 @@ Inv-loop codes₀ from at count done₀ codes done =
 abbrev μ-loop : tie.MeasureT-loop
 μ-loop codes₀ from at count done₀ codes done = count - done
 
--- src/lib.rt:52:9
 least-requires : tie.Need-least-requires Inv-loop μ-loop
 least-requires c κs = tt
 
--- src/lib.rt:54:5
 loop-holds : tie.Need-loop-holds Inv-loop μ-loop
 loop-holds c =
-    let a = c .before .before .before .args in
-    (omega arith, paste-zero (a .outlet .codes) (a .outlet .count) (a .bytes .codes), search needs, search needs, search needs)
+    let a = c .before .before .before .args in (
+      omega arith,
+      paste-zero (a .outlet .codes) (a .outlet .count) (a .bytes .codes),
+      search needs,
+      search needs,
+      search needs,
+    )
 
--- src/lib.rt:55:28
 array-read-codes : tie.Need-array-read-codes Inv-loop μ-loop
 array-read-codes c = search needs
 
--- src/lib.rt:55:15
 add-codes : tie.Need-add-codes Inv-loop μ-loop
 add-codes c = search needs
 
--- src/lib.rt:55:9
 array-write-codes : tie.Need-array-write-codes Inv-loop μ-loop
 array-write-codes c = search needs
 
--- src/lib.rt:56:9
 add-done : tie.Need-add-done Inv-loop μ-loop
 add-done c = search needs
 
--- src/lib.rt:54:5
 loop-less : tie.Need-loop-less Inv-loop μ-loop
 loop-less c = omega arith
 
--- src/lib.rt:54:5
 loop-again : tie.Need-loop-again Inv-loop μ-loop
 loop-again c =
     let l = c .before in
@@ -64,11 +62,9 @@ loop-again c =
       l .loop .inv .4,
     )
 
--- src/lib.rt:60:16
 add-t16 : tie.Need-add-t16 Inv-loop μ-loop
 add-t16 c = search needs
 
--- src/lib.rt:45:1
 returns : tie.Need-returns Inv-loop μ-loop
 returns c =
     let l = c .before in

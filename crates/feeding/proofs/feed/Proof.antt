@@ -1,3 +1,4 @@
+-- `feeding::feed` meets its contract. Assumes nothing.
 use mathlib.Core.Path.{_≡_, refl, sym, ap, ap₂, _∙_, subst⁻¹}
 use Prim.Native.Nat.{ℕ, _-_, _≤_, _<_}
 use native.Mathlib.Omega.{arith}
@@ -15,12 +16,6 @@ use Rattle.feeding.proofs.Outlets.{as-many}
 use Rattle.feeding.proofs.Suffices.{run-one, room, one-fed, suffices}
 use Rattle.feeding.proofs.feed.Statement.{statement}
 use Rattle.feeding.proofs.feed.Tie as tie
-use Rattle.feeding.proofs.feed.Reads as reads
-use Rattle.feeding.proofs.feed.Lts as lts
-use Rattle.feeding.proofs.gather.Reads as gather-reads
-use Rattle.feeding.proofs.least.Reads as least-reads
-use Rattle.feeding.proofs.nothing.Reads as nothing-reads
-use Rattle.links.proofs.Links.from_modem.Reads as from-modem-reads
 
 abbrev Inv-loop : tie.InvT-loop
 Inv-loop passed values links₀ shares₀ count i₀ links shares i =
@@ -30,28 +25,22 @@ Inv-loop passed values links₀ shares₀ count i₀ links shares i =
 abbrev μ-loop : tie.MeasureT-loop
 μ-loop passed values links₀ shares₀ count i₀ links shares i = count - i
 
--- src/lib.rt:110:9
 nothing-requires : tie.Need-nothing-requires Inv-loop μ-loop
 nothing-requires c κs = tt
 
--- src/lib.rt:111:9
 least-requires : tie.Need-least-requires Inv-loop μ-loop
 least-requires c κs = tt
 
--- src/lib.rt:113:5
 loop-holds : tie.Need-loop-holds Inv-loop μ-loop
 unfolding got
 loop-holds c = (omega arith, search needs, refl, c .before .nothing .ensures)
 
--- src/lib.rt:114:40
 array-read-from-modem : tie.Need-array-read-from-modem Inv-loop μ-loop
 array-read-from-modem c = search needs
 
--- src/lib.rt:114:13
 from-modem-requires : tie.Need-from-modem-requires Inv-loop μ-loop
 from-modem-requires c κs = tt
 
--- src/lib.rt:116:9
 gather-requires : tie.Need-gather-requires Inv-loop μ-loop
 gather-requires c κs =
     let l = c .before .before .before in
@@ -60,15 +49,12 @@ gather-requires c κs =
     room (a .start) (a .t2) (l .loop .i) (omega arith) (omega arith) in
     simp (l .loop .inv .3) ((f Screen, f Keyboard), (f Modem, f Socket))
 
--- src/lib.rt:118:9
 add-i : tie.Need-add-i Inv-loop μ-loop
 add-i c = search needs
 
--- src/lib.rt:113:5
 loop-less : tie.Need-loop-less Inv-loop μ-loop
 loop-less c = omega arith
 
--- src/lib.rt:113:5
 loop-again : tie.Need-loop-again Inv-loop μ-loop
 loop-again c =
     let l = c .before .before .before .before .before in
@@ -85,7 +71,6 @@ loop-again c =
           ∙ one-fed (a .start) (a .t2) (l .loop .i) h,
     )
 
--- src/lib.rt:106:1
 returns : tie.Need-returns Inv-loop μ-loop
 unfolding fed
 returns c =

@@ -1,27 +1,20 @@
+-- `feeding::gather` meets its contract. Assumes nothing.
 use borrow.Author.Needs.{needs}
 use Rattle.feeding.proofs.gather.Statement.{statement}
 use Rattle.feeding.proofs.gather.Tie as tie
-use Rattle.feeding.proofs.gather.Reads as reads
-use Rattle.feeding.proofs.gather.Lts as lts
-use Rattle.feeding.proofs.append.Reads as append-reads
 
--- src/lib.rt:70:9
 append-requires : tie.Need-append-requires
 append-requires c κs = search needs
 
--- src/lib.rt:71:9
 append-requires-2 : tie.Need-append-requires-2
 append-requires-2 c κs = search needs
 
--- src/lib.rt:72:9
 append-requires-3 : tie.Need-append-requires-3
 append-requires-3 c κs = search needs
 
--- src/lib.rt:73:9
 append-requires-4 : tie.Need-append-requires-4
 append-requires-4 c κs = search needs
 
--- src/lib.rt:65:1
 returns : tie.Need-returns
 returns c =
     simp (

@@ -1,3 +1,4 @@
+-- `feeding::share_out` meets its contract. Assumes nothing.
 use mathlib.Core.Path.{_≡_, ap, _∙_, subst⁻¹}
 use Prim.Native.Nat.{_≤_}
 use mathlib.Core.List.{[]}
@@ -11,20 +12,13 @@ use Rattle.feeding.proofs.Outlets.{taken-most, gathers}
 use borrow.Author.Needs.{needs}
 use Rattle.feeding.proofs.share_out.Statement.{statement}
 use Rattle.feeding.proofs.share_out.Tie as tie
-use Rattle.feeding.proofs.share_out.Reads as reads
-use Rattle.feeding.proofs.share_out.Lts as lts
-use Rattle.feeding.proofs.gather.Reads as gather-reads
-use Rattle.feeding.proofs.nothing.Reads as nothing-reads
 
--- src/lib.rt:102:12
 nothing-requires : tie.Need-nothing-requires
 nothing-requires c κs = search needs
 
--- src/lib.rt:102:5
 gather-requires : tie.Need-gather-requires
 gather-requires c κs = simp (c .nothing .ensures) ((omega arith, omega arith), (omega arith, omega arith))
 
--- src/lib.rt:99:1
 returns : tie.Need-returns
 returns c =
     let sent = c .before .before .args .sent in

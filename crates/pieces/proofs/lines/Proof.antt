@@ -1,3 +1,4 @@
+-- `pieces::lines` meets its contract. Assumes nothing.
 use mathlib.Core.Path.{_≡_, sym, ap, ap₂, _∙_}
 use mathlib.Core.Bool.{Bool, true, false}
 use mathlib.Core.List.{List}
@@ -16,11 +17,9 @@ use Rattle.pieces.proofs.Single.{handed-is, asked-is, taken-is, short-i
 use Rattle.pieces.proofs.lines.Statement.{statement}
 use Rattle.pieces.proofs.lines.Tie as tie
 
--- src/lib.rt:72:8
 in-range-requires : tie.Need-in-range-requires
 in-range-requires c κs = search needs
 
--- src/lib.rt:82:12
 fits-requires : tie.Need-fits-requires
 fits-requires c κs = search needs
 
@@ -31,7 +30,9 @@ module _ (d : tie.After-fits2) where
   start = d .before .before .before .before .before .before .before .before .before .before
 
   abbrev room : Room
-  room = roomIn (start .args .keyboard .now) (start .args .modem .now) (start .args .socket .now) (start .args .requests .now)
+  room =
+      roomIn (start .args .keyboard .now) (start .args .modem .now) (start .args .socket .now)
+      (start .args .requests .now)
 
   range : inRange (start .args .board) ≡ true
   range = sym (d .before .before .before .before .in-range .ensures) ∙ d .before .before .before .if1 .taken
@@ -63,39 +64,35 @@ module _ (s : tie.Start) (t : Bool) (e : t ≡ false) where
     same (asked b xs) (s .args .requests .now),
   )
 
--- src/lib.rt:83:13
 play-requires : tie.Need-play-requires
 play-requires c κs =
     let d = c .before .before .before .before .before in
     (whole d .screen, sym (d .fits2 .ensures) ∙ c .before .before .before .before .if2 .taken)
 
--- src/lib.rt:83:13
 same-length : tie.Need-same-length
 same-length c = search needs
 
--- src/lib.rt:83:13
 same-length-2 : tie.Need-same-length-2
 same-length-2 c = search needs
 
--- src/lib.rt:83:13
 same-length-3 : tie.Need-same-length-3
 same-length-3 c = search needs
 
--- src/lib.rt:83:13
 same-length-4 : tie.Need-same-length-4
 same-length-4 c = search needs
 
--- src/lib.rt:83:13
 returns : tie.Need-returns
 returns c =
-    let d = c .before .before .before .before .before .before .before .before .before .before .before .before .before .before in
-    let e = c .before .before .before .before .before .before .before .before .play .ensures in
+    let p = c .before .before .before .before .before .before .before .before in
+    let t = p .before .before .before .before .before in
+    let d = t .before in
+    let e = p .play .ensures in
     let b = start d .args .board in
     let xs = start d .args .piece .now in
-    let w : within (needed (frontOf b) xs) (room d) ≡ true = sym (d .fits2 .ensures) ∙ c .before .before .before .before .before .before .before .before .before .before .before .before .before .if2 .taken in
-    let t : isTaken b xs (room d) ≡ true = is-taken b (whole d) xs (room d) true (range d) w in
+    let w : within (needed (frontOf b) xs) (room d) ≡ true = sym (d .fits2 .ensures) ∙ t .if2 .taken in
+    let y : isTaken b xs (room d) ≡ true = is-taken b (whole d) xs (room d) true (range d) w in
     let out : (vs us out : List ℕ) → us ≡ vs → leftIn true vs out ≡ leftIn (isTaken b xs (room d)) us out =
-    λ vs us out p. sym (ap₂ (λ (u : Bool) (ws : List ℕ). leftIn u ws out) t p) in (
+    λ vs us out p. sym (ap₂ (λ (u : Bool) (ws : List ℕ). leftIn u ws out) y p) in (
       e .0 ∙ taken-is b (whole d) xs (room d) (range d) w,
       (
         e .1 .0 ∙ out _ _ _ (handed-is b (whole d) xs Keyboard tt),
@@ -105,11 +102,9 @@ returns c =
       ),
     )
 
--- src/lib.rt:85:9
 refuse-requires : tie.Need-refuse-requires
 refuse-requires c κs = search needs
 
--- src/lib.rt:85:9
 returns-2 : tie.Need-returns-2
 returns-2 c =
     let d = c .before .before in
@@ -119,11 +114,9 @@ returns-2 c =
     let t : isTaken b xs (room d) ≡ false = is-taken b (whole d) xs (room d) false (range d) w in
     (c .refuse .ensures ∙ short-is b (whole d) xs (room d) (range d) w, untouched (start d) (isTaken b xs (room d)) t)
 
--- src/lib.rt:87:5
 refuse-requires-2 : tie.Need-refuse-requires-2
 refuse-requires-2 c κs = search needs
 
--- src/lib.rt:54:1
 returns-3 : tie.Need-returns-3
 returns-3 c =
     let s = c .before .before .before .before .before .before .before .before in

@@ -1,30 +1,31 @@
+-- `board::Board::follow` meets its contract. Assumes nothing.
 use Rattle.board.specs.Calls.{following}
 use borrow.Author.Needs.{needs}
 use Rattle.board.proofs.Board.follow.Statement.{statement}
 use Rattle.board.proofs.Board.follow.Tie as tie
 
--- src/lib.rt:158:12
 in-range-requires : tie.Need-in-range-requires
 in-range-requires c κs = search needs
 
--- src/lib.rt:160:17
 feed-requires : tie.Need-feed-requires
 feed-requires c κs = search needs
 
--- src/lib.rt:165:13
 join-requires : tie.Need-join-requires
-join-requires c κs = c .before .before .before .before .feed .ensures .1 .screen
+join-requires c κs = c .before .before .before .before .feed .ensures .1
 
--- src/lib.rt:165:13
 returns : tie.Need-returns
 unfolding following
-returns c = simp (c .join .ensures, c .before .before .before .before .before .feed .ensures .0, c .before .before .before .before .before .before .before .if1 .taken, ← c .before .before .before .before .before .before .before .before .in-range .ensures)
+returns c =
+    simp (
+      c .join .ensures,
+      c .before .before .before .before .before .feed .ensures .0,
+      c .before .before .before .before .before .before .before .if1 .taken,
+      ← c .before .before .before .before .before .before .before .before .in-range .ensures,
+    )
 
--- src/lib.rt:167:9
 refuse-requires : tie.Need-refuse-requires
 refuse-requires c κs = search needs
 
--- src/lib.rt:155:5
 returns-2 : tie.Need-returns-2
 unfolding following
 returns-2 c = simp (c .refuse .ensures, c .before .if1 .left, ← c .before .before .in-range .ensures)

@@ -1,20 +1,17 @@
+-- `board::Board::fresh` meets its contract. Assumes nothing.
 use borrow.Author.Needs.{needs}
 use Rattle.board.proofs.Board.fresh.Statement.{statement}
 use Rattle.board.proofs.Board.fresh.Tie as tie
 
--- src/lib.rt:97:23
 new-requires : tie.Need-new-requires
 new-requires c κs = search needs
 
--- src/lib.rt:98:20
 local-requires : tie.Need-local-requires
 local-requires c κs = search needs
 
--- src/lib.rt:99:21
 fresh-requires : tie.Need-fresh-requires
 fresh-requires c κs = search needs
 
--- src/lib.rt:93:5
 returns : tie.Need-returns
 returns c = simp (c .fresh .ensures, c .before .local .ensures, c .before .before .new .ensures)
 

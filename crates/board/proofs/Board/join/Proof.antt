@@ -1,12 +1,11 @@
+-- `board::Board::join` meets its contract. Assumes nothing.
 use borrow.Author.Needs.{needs}
 use Rattle.board.proofs.Board.join.Statement.{statement}
 use Rattle.board.proofs.Board.join.Tie as tie
 
--- src/lib.rt:134:13
 show-requires : tie.Need-show-requires
 show-requires c κs = search needs
 
--- src/lib.rt:122:5
 returns : tie.Need-returns
 returns c = simp (c .before .before .before .show .ensures)
 

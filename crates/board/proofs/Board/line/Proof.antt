@@ -1,16 +1,14 @@
+-- `board::Board::line` meets its contract. Assumes nothing.
 use borrow.Author.Needs.{needs}
 use Rattle.board.proofs.Board.line.Statement.{statement}
 use Rattle.board.proofs.Board.line.Tie as tie
 
--- src/lib.rt:191:21
 step-requires : tie.Need-step-requires
 step-requires c κs = search needs
 
--- src/lib.rt:191:9
 follow-requires : tie.Need-follow-requires
 follow-requires c κs = search needs
 
--- src/lib.rt:187:5
 returns : tie.Need-returns
 returns c = simp (c .follow .ensures, c .before .step .ensures)
 

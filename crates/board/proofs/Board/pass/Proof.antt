@@ -1,34 +1,35 @@
+-- `board::Board::pass` meets its contract. Assumes nothing.
 use Rattle.board.specs.Calls.{passing}
 use borrow.Author.Needs.{needs}
 use Rattle.board.proofs.Board.pass.Statement.{statement}
 use Rattle.board.proofs.Board.pass.Tie as tie
 
--- src/lib.rt:174:12
 in-range-requires : tie.Need-in-range-requires
 in-range-requires c κs = search needs
 
--- src/lib.rt:180:17
 share-out-requires : tie.Need-share-out-requires
 share-out-requires c κs = search needs
 
--- src/lib.rt:181:55
 answer-of-requires : tie.Need-answer-of-requires
 answer-of-requires c κs = search needs
 
--- src/lib.rt:181:13
 join-requires : tie.Need-join-requires
-join-requires c κs = c .before .share-out .ensures .1 .screen
+join-requires c κs = c .before .share-out .ensures .1
 
--- src/lib.rt:181:13
 returns : tie.Need-returns
 unfolding passing
-returns c = simp (c .join .ensures, c .before .answer-of .ensures, c .before .before .share-out .ensures .0, c .before .before .before .before .before .before .if1 .taken, ← c .before .before .before .before .before .before .before .in-range .ensures)
+returns c =
+    simp (
+      c .join .ensures,
+      c .before .answer-of .ensures,
+      c .before .before .share-out .ensures .0,
+      c .before .before .before .before .before .before .if1 .taken,
+      ← c .before .before .before .before .before .before .before .in-range .ensures,
+    )
 
--- src/lib.rt:183:9
 refuse-requires : tie.Need-refuse-requires
 refuse-requires c κs = search needs
 
--- src/lib.rt:171:5
 returns-2 : tie.Need-returns-2
 unfolding passing
 returns-2 c = simp (c .refuse .ensures, c .before .if1 .left, ← c .before .before .in-range .ensures)

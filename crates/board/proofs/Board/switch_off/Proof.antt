@@ -1,16 +1,14 @@
+-- `board::Board::switch_off` meets its contract. Assumes nothing.
 use borrow.Author.Needs.{needs}
 use Rattle.board.proofs.Board.switch_off.Statement.{statement}
 use Rattle.board.proofs.Board.switch_off.Tie as tie
 
--- src/lib.rt:207:21
 switch-off-requires : tie.Need-switch-off-requires
 switch-off-requires c κs = search needs
 
--- src/lib.rt:207:9
 follow-requires : tie.Need-follow-requires
 follow-requires c κs = search needs
 
--- src/lib.rt:203:5
 returns : tie.Need-returns
 returns c = simp (c .follow .ensures, c .before .switch-off .ensures)
 

@@ -1,16 +1,14 @@
+-- `board::Board::with_connected` meets its contract. Assumes nothing.
 use borrow.Author.Needs.{needs}
 use Rattle.board.proofs.Board.with_connected.Statement.{statement}
 use Rattle.board.proofs.Board.with_connected.Tie as tie
 
--- src/lib.rt:247:19
 with-connected-requires : tie.Need-with-connected-requires
 with-connected-requires c κs = search needs
 
--- src/lib.rt:247:9
 pass-requires : tie.Need-pass-requires
 pass-requires c κs = search needs
 
--- src/lib.rt:243:5
 returns : tie.Need-returns
 returns c = simp (c .pass .ensures, c .before .with-connected .ensures)
 

@@ -1,18 +1,16 @@
+-- `pieces::front::hear` meets its contract. Assumes nothing.
 use Rattle.receiver.proofs.Asked.{asked-counted}
 use Rattle.pieces.specs.Hearing.{heardBy}
 use borrow.Author.Needs.{needs}
 use Rattle.pieces.proofs.front.hear.Statement.{statement}
 use Rattle.pieces.proofs.front.hear.Tie as tie
 
--- src/front.rt:27:9
 step-requires : tie.Need-step-requires
 step-requires c κs = search needs
 
--- src/front.rt:29:9
 feed-requires : tie.Need-feed-requires
 feed-requires c κs = search needs
 
--- src/front.rt:23:1
 returns : tie.Need-returns
 unfolding heardBy
 returns c =

@@ -1,3 +1,4 @@
+-- `pieces::outputs::put` meets its contract. Assumes nothing.
 use mathlib.Core.Path.{_≡_, refl, sym, ap, _∙_}
 use mathlib.Core.List.{List}
 use Prim.Native.Nat.{ℕ, _+_, _-_, _≤_, zero-le}
@@ -16,32 +17,25 @@ Inv-loop out₀ at from codes i₀ out i =
 abbrev μ-loop : tie.MeasureT-loop
 μ-loop out₀ at from codes i₀ out i = from .count - i
 
--- src/outputs.rt:20:5
 loop-holds : tie.Need-loop-holds Inv-loop μ-loop
 loop-holds c =
     let a = c .before .args in (zero-le, paste-zero (a .out .now) (a .at) (a .from .codes), refl, search needs)
 
--- src/outputs.rt:21:23
 array-read-out : tie.Need-array-read-out Inv-loop μ-loop
 array-read-out c = search needs
 
--- src/outputs.rt:21:13
 add-out : tie.Need-add-out Inv-loop μ-loop
 add-out c = search needs
 
--- src/outputs.rt:21:9
 slice-write-out : tie.Need-slice-write-out Inv-loop μ-loop
 slice-write-out c = search needs
 
--- src/outputs.rt:22:9
 add-i : tie.Need-add-i Inv-loop μ-loop
 add-i c = search needs
 
--- src/outputs.rt:20:5
 loop-less : tie.Need-loop-less Inv-loop μ-loop
 loop-less c = omega arith
 
--- src/outputs.rt:20:5
 loop-again : tie.Need-loop-again Inv-loop μ-loop
 loop-again c =
     let l = c .before .before in
@@ -56,11 +50,9 @@ loop-again c =
       l .loop .inv .3,
     )
 
--- src/outputs.rt:13:1
 same-length : tie.Need-same-length Inv-loop μ-loop
 same-length c = c .before .before .loop .inv .2
 
--- src/outputs.rt:13:1
 returns : tie.Need-returns Inv-loop μ-loop
 returns c =
     let l = c .before .before in

@@ -1,7 +1,8 @@
+-- `pieces::playing::play` meets its contract. Assumes nothing.
 use mathlib.Core.Path.{_≡_, refl, sym, ap, _∙_}
 use mathlib.Core.List.{List}
 use mathlib.Core.Logic.{⊎-elim}
-use Prim.Native.Nat.{ℕ, _+_, _-_, _≤_, _<_, zero-le}
+use Prim.Native.Nat.{ℕ, _-_, _≤_, _<_, zero-le}
 use native.Mathlib.Omega.{arith}
 use lib.ListN.{length, take, getD}
 use lib.Seq.{take-all}
@@ -14,21 +15,21 @@ use Rattle.pieces.specs.declared.room.Room.{Room}
 use Rattle.pieces.specs.Pieces.{roomIn}
 use Rattle.pieces.specs.Hearing.{heardBy, calls, behind, frontOf, toEach, asks, needed, played}
 use Rattle.pieces.proofs.Rooms.{Fits, tested}
-use Rattle.pieces.proofs.SoFar.{begins, Played, next-front, next-used, next-keyboard, next-modem, next-socket, next-asked}
+use Rattle.pieces.proofs.SoFar.{begins, Played, next-front, next-used, next-keyboard}
+use Rattle.pieces.proofs.SoFar.{next-modem, next-socket, next-asked}
 use Rattle.pieces.proofs.SoFar.{long, next-screen, same-screen, next-fits}
 use Rattle.pieces.proofs.playing.play.Statement.{statement}
 use Rattle.pieces.proofs.playing.play.Tie as tie
 
 abbrev Inv-loop : tie.InvT-loop
-Inv-loop piece keyboard₀ modem₀ socket₀ requests₀ screen₀ front₀ used₀ i₀ keyboard modem socket requests screen front used i =
+Inv-loop piece k₀ m₀ s₀ r₀ screen₀ front₀ used₀ i₀ keyboard modem socket requests screen front used i =
     (i ≤ length piece)
-    × Played front₀ screen₀ piece keyboard₀ modem₀ socket₀ requests₀ i front screen used keyboard modem socket requests
+    × Played front₀ screen₀ piece k₀ m₀ s₀ r₀ i front screen used keyboard modem socket requests
 
 abbrev μ-loop : tie.MeasureT-loop
-μ-loop piece keyboard₀ modem₀ socket₀ requests₀ screen₀ front₀ used₀ i₀ keyboard modem socket requests screen front used i =
+μ-loop piece k₀ m₀ s₀ r₀ screen₀ front₀ used₀ i₀ keyboard modem socket requests screen front used i =
     length piece - i
 
--- src/playing.rt:63:5
 loop-holds : tie.Need-loop-holds Inv-loop μ-loop
 unfolding calls got
 loop-holds c =
@@ -45,11 +46,9 @@ loop-holds c =
       },
     )
 
--- src/playing.rt:64:33
 shared-slice-read-hear : tie.Need-shared-slice-read-hear Inv-loop μ-loop
 shared-slice-read-hear c = search needs
 
--- src/playing.rt:64:13
 hear-requires : tie.Need-hear-requires Inv-loop μ-loop
 hear-requires c κs = tt
 
@@ -85,7 +84,6 @@ module _ (d : tie.After-hear Inv-loop μ-loop) where
   heard-is : d .hear .result ≡ heardBy (behind first (take i xs)) (getD xs i 0)
   heard-is = d .hear .ensures .0 ∙ ap (λ (f : Front). heardBy f (getD xs i 0)) (at-loop .loop .inv .1 .front)
 
--- src/playing.rt:66:9
 hand-requires : tie.Need-hand-requires Inv-loop μ-loop
 hand-requires c κs =
     let d = c .before .before .before .before .before in
@@ -94,24 +92,31 @@ hand-requires c κs =
       (f .keyboard, (f .modem, (f .socket, f .requests))),
     )
 
--- src/playing.rt:70:13
 show-requires : tie.Need-show-requires Inv-loop μ-loop
-show-requires c κs = c .before .before .before .before .before .before .before .before .before .before .before .before .before .before .before .before .before .before .hear .ensures .1 .screen
+show-requires c κs =
+    let d =
+    c .before .before .before .before .before .before .before .before .before .before .before .before .before
+    .before .before .before .before .before in
+    d .hear .ensures .1 .screen
 
--- src/playing.rt:72:9
 add-i : tie.Need-add-i Inv-loop μ-loop
 add-i c =
-    let d = c .before .before .before .before .before .before .before .before .before .before .before .before .before .before .before .before .before .before in search (needs, within-piece d, start d .good .1)
+    let d =
+    c .before .before .before .before .before .before .before .before .before .before .before .before .before
+    .before .before .before .before .before in
+    search (needs, within-piece d, start d .good .1)
 
--- src/playing.rt:63:5
 loop-less : tie.Need-loop-less Inv-loop μ-loop
 loop-less c = omega arith
 
--- src/playing.rt:63:5
 loop-again : tie.Need-loop-again Inv-loop μ-loop
 loop-again c =
-    let d = c .before .before .before .before .before .before .before .before .before .before .before .before .before .before .before .before .before .before in
-    let e = c .before .before .before .before .before .before .before .before .before .before .before .before .hand .ensures in
+    let d =
+    c .before .before .before .before .before .before .before .before .before .before .before .before .before
+    .before .before .before .before .before in
+    let e =
+    c .before .before .before .before .before .before .before .before .before .before .before .before
+    .hand .ensures in
     let r = d .hear .result in
     let now = at-loop d .loop .inv .1 in
     let h = within-piece d in
@@ -130,27 +135,30 @@ loop-again c =
       },
     )
 
--- src/playing.rt:31:1
 same-length : tie.Need-same-length Inv-loop μ-loop
 same-length c =
-    let l = c .before .before .before in long (l .loop .inv .1) (enough (l .before .before .before .before .before .before .before .before .before)) .0
+    let l =
+    c .before .before .before in
+    long (l .loop .inv .1) (enough (l .before .before .before .before .before .before .before .before .before)) .0
 
--- src/playing.rt:31:1
 same-length-2 : tie.Need-same-length-2 Inv-loop μ-loop
 same-length-2 c =
-    let l = c .before .before .before in long (l .loop .inv .1) (enough (l .before .before .before .before .before .before .before .before .before)) .1
+    let l =
+    c .before .before .before in
+    long (l .loop .inv .1) (enough (l .before .before .before .before .before .before .before .before .before)) .1
 
--- src/playing.rt:31:1
 same-length-3 : tie.Need-same-length-3 Inv-loop μ-loop
 same-length-3 c =
-    let l = c .before .before .before in long (l .loop .inv .1) (enough (l .before .before .before .before .before .before .before .before .before)) .2
+    let l =
+    c .before .before .before in
+    long (l .loop .inv .1) (enough (l .before .before .before .before .before .before .before .before .before)) .2
 
--- src/playing.rt:31:1
 same-length-4 : tie.Need-same-length-4 Inv-loop μ-loop
 same-length-4 c =
-    let l = c .before .before .before in long (l .loop .inv .1) (enough (l .before .before .before .before .before .before .before .before .before)) .3
+    let l =
+    c .before .before .before in
+    long (l .loop .inv .1) (enough (l .before .before .before .before .before .before .before .before .before)) .3
 
--- src/playing.rt:31:1
 returns : tie.Need-returns Inv-loop μ-loop
 unfolding played
 returns c =

@@ -1,3 +1,4 @@
+-- `pieces::playing::show` meets its contract. Assumes nothing.
 use mathlib.Core.Path.{_≡_, sym}
 use native.Mathlib.Omega.{arith}
 use lib.ListN.{length}
@@ -6,23 +7,19 @@ use borrow.Author.Needs.{needs}
 use Rattle.pieces.proofs.playing.show.Statement.{statement}
 use Rattle.pieces.proofs.playing.show.Tie as tie
 
--- src/lib.rt:76:37
 array-share-prefix-codes : tie.Need-array-share-prefix-codes
 array-share-prefix-codes c =
     let n : length (c .before .args .sent .codes) ≡ 75 = search needs in omega arith
 
--- src/lib.rt:76:37
 slice-aggregate-run : tie.Need-slice-aggregate-run
 slice-aggregate-run c =
     let a = c .before .before .args in
     let n : length (a .sent .codes) ≡ 75 = search needs in
     sym (length-take-le (a .sent .count) (a .sent .codes) (omega arith))
 
--- src/lib.rt:76:9
 run-requires : tie.Need-run-requires
 run-requires c κs = search needs
 
--- src/lib.rt:71:1
 returns : tie.Need-returns
 returns c = simp (c .before .run .ensures)
 

@@ -1,3 +1,4 @@
+-- `pieces::room::fits` meets its contract. Assumes nothing.
 use mathlib.Core.Path.{_≡_, refl, sym, ap, _∙_, subst, subst⁻¹}
 use mathlib.Core.List.{List}
 use Prim.Native.Nat.{ℕ, _-_, _≤_, _<_, zero-le}
@@ -22,7 +23,6 @@ Inv-loop piece front₀ left₀ i₀ front left i =
 abbrev μ-loop : tie.MeasureT-loop
 μ-loop piece front₀ left₀ i₀ front left i = length piece - i
 
--- src/room.rt:65:5
 loop-holds : tie.Need-loop-holds Inv-loop μ-loop
 unfolding calls got
 loop-holds c = (
@@ -31,27 +31,21 @@ loop-holds c = (
   record { keyboard = omega arith; modem = omega arith; socket = omega arith; requests = omega arith },
 )
 
--- src/room.rt:66:33
 shared-slice-read-hear : tie.Need-shared-slice-read-hear Inv-loop μ-loop
 shared-slice-read-hear c = search needs
 
--- src/room.rt:66:13
 hear-requires : tie.Need-hear-requires Inv-loop μ-loop
 hear-requires c κs = tt
 
--- src/room.rt:67:33
 needs-requires : tie.Need-needs-requires Inv-loop μ-loop
 needs-requires c κs = tt
 
--- src/room.rt:67:13
 spend-requires : tie.Need-spend-requires Inv-loop μ-loop
 spend-requires c κs = tt
 
--- src/room.rt:69:26
 enum-known-spent : tie.Need-enum-known-spent Inv-loop μ-loop
 enum-known-spent c = search needs
 
--- src/room.rt:72:28
 enum-told : tie.Need-enum-told Inv-loop μ-loop
 enum-told c = search needs
 
@@ -87,15 +81,12 @@ returns c =
     sym (lacking (a .start) (xs d) (i d) (a .room) (l .loop .left) (omega arith) (l .loop .inv .2)
     (short (l .loop .left) (needsOf (heardBy (here d) (getD (xs d) (i d) 0))) (spent-is d ∙ c .enum-told .given .1)))
 
--- src/room.rt:75:9
 add-i : tie.Need-add-i Inv-loop μ-loop
 add-i c = search needs
 
--- src/room.rt:65:5
 loop-less : tie.Need-loop-less Inv-loop μ-loop
 loop-less c = omega arith
 
--- src/room.rt:65:5
 loop-again : tie.Need-loop-again Inv-loop μ-loop
 loop-again c =
     let d = c .before .before .before .before in
@@ -112,7 +103,6 @@ loop-again c =
           (spent-on (l .loop .inv .2) (tested need (l .loop .left) (e .0)))),
     )
 
--- src/room.rt:59:1
 returns-2 : tie.Need-returns-2 Inv-loop μ-loop
 returns-2 c =
     let l = c .before in
