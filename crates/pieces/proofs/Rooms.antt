@@ -14,9 +14,9 @@ use Rattle.feeding.specs.Feeding.{fed}
 use Rattle.wiring.specs.declared.Module.{Module}
 use Rattle.wiring.specs.declared.Module.the-variants.{Keyboard, Modem, Socket}
 use Rattle.pieces.specs.declared.front.Front.{Front}
-use Rattle.pieces.specs.declared.room.Room.{Room}
-use Rattle.pieces.specs.declared.room.Left.{Left}
-use Rattle.pieces.specs.declared.room.Left.the-variants.{Enough, Short}
+use Rattle.pieces.specs.declared.Room.{Room}
+use Rattle.pieces.specs.declared.fitting.Left.{Left}
+use Rattle.pieces.specs.declared.fitting.Left.the-variants.{Enough, Short}
 use Rattle.pieces.specs.Pieces.{within}
 use Rattle.pieces.specs.Hearing.{heardBy, behind, toEach, asks, needed, needsOf, more, less, leftOver}
 use Rattle.pieces.proofs.Onwards.{each-append, asks-append, brings, requests, each-one, asks-one}

@@ -18,7 +18,7 @@ use Rattle.board.specs.Boards.{inRange}
 use Rattle.board.specs.Runs.{run, heardIn, callsIn, Outside, InBoard}
 use Rattle.board.proofs.Parts.{apart}
 use Rattle.pieces.specs.declared.Answer.the-variants.{Taken, NoRoom, Broken}
-use Rattle.pieces.specs.declared.room.Room.{Room}
+use Rattle.pieces.specs.declared.Room.{Room}
 use Rattle.pieces.specs.Pieces.{singly, handed, asked, yields, within, passage, refused, linesOf, isTaken}
 use Rattle.pieces.specs.Hearing.{bytes, calls, toEach, asks, needed, frontOf, heardWhole, played}
 

@@ -20,7 +20,7 @@ use Rattle.screen.specs.Calls.{ran}
 use Rattle.screen.proofs.Given.{ran-none, run-parts}
 use Rattle.pieces.specs.declared.front.Front.{Front}
 use Rattle.pieces.specs.declared.front.Heard.{Heard}
-use Rattle.pieces.specs.declared.room.Room.{Room}
+use Rattle.pieces.specs.declared.Room.{Room}
 use Rattle.pieces.specs.Pieces.{roomIn}
 use Rattle.pieces.specs.Hearing.{heardBy, behind, calls, toEach, asks, needed, needsOf, more}
 use Rattle.pieces.proofs.Onwards.{brings, requests, behind-one, each-one, asks-one}

@@ -14,9 +14,9 @@ use Rattle.screen.specs.Calls.{ran}
 use Rattle.board.specs.declared.Board.{Board}
 use Rattle.pieces.specs.declared.front.Front.{Front}
 use Rattle.pieces.specs.declared.front.Heard.{Heard}
-use Rattle.pieces.specs.declared.room.Room.{Room}
-use Rattle.pieces.specs.declared.room.Left.{Left}
-use Rattle.pieces.specs.declared.room.Left.the-variants.{Enough, Short}
+use Rattle.pieces.specs.declared.Room.{Room}
+use Rattle.pieces.specs.declared.fitting.Left.{Left}
+use Rattle.pieces.specs.declared.fitting.Left.the-variants.{Enough, Short}
 use Rattle.pieces.specs.declared.Answer.the-variants.{Taken}
 use Rattle.pieces.specs.declared.Passage.{Passage}
 use Rattle.pieces.specs.Pieces.{roomIn, within, passage}

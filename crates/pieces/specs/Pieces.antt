@@ -12,7 +12,7 @@ use Rattle.receiver.specs.Runs.{byte}
 use Rattle.board.specs.declared.Board.{Board}
 use Rattle.board.specs.Boards.{inRange}
 use Rattle.board.specs.Runs.{Event, front, run, handedTo, requests}
-use Rattle.pieces.specs.declared.room.Room.{Room}
+use Rattle.pieces.specs.declared.Room.{Room}
 use Rattle.pieces.specs.declared.Answer.{Answer}
 use Rattle.pieces.specs.declared.Answer.the-variants.{Taken, NoRoom, Broken}
 use Rattle.pieces.specs.declared.Passage.{Passage}

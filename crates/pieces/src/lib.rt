@@ -2,28 +2,35 @@
 //
 // `lines` does what single calls of `line` would do one after the other, with the ranges tested once. Where an output
 // lacks room for what the whole piece yields, nothing is taken and no output is touched: so the piece is heard twice,
-// first to see what room it takes (room.rt), and then for good (playing.rt). specs/Pieces says what `lines` promises;
+// first to see what room it takes (fitting.rt), and then for good (playing.rt). specs/Pieces says what `lines` promises;
 // proofs/ shows that hearing byte by byte comes to that.
 ghost use mathlib.Core.Path.{_≡_};
 ghost use Rattle.wiring.specs.declared.Module.the-variants.{Keyboard, Modem, Socket};
 ghost use Rattle.pieces.specs.Pieces.{refused, roomIn, linesOf, isTaken, handed, asked, leftIn};
 
+mod fitting;
 mod front;
 mod outputs;
 mod playing;
-mod room;
 
 use board::Board;
+use fitting::fits;
 use front::Front;
 use playing::play;
-use room::Room;
-use room::fits;
 
 // What a call answers: the paper's 0, 4 and 5.
 pub enum Answer {
     Taken,
     NoRoom,
     Broken,
+}
+
+// Bytes for each output: those that there is room for, or those written.
+pub struct Room {
+    pub keyboard: usize,
+    pub modem: usize,
+    pub socket: usize,
+    pub requests: usize,
 }
 
 // What a call hands back, with the bytes written to each output.

@@ -5,8 +5,8 @@ ghost use lib.ListN.{length};
 ghost use lib.Seq.{paste};
 ghost use Rattle.feeding.specs.Feeding.{Enough};
 ghost use Rattle.pieces.specs.Hearing.{needsOf, more};
+use crate::Room;
 use crate::front::Heard;
-use crate::room::Room;
 use feeding::Outlet;
 
 // What a module gets, at a place of its output.

@@ -10,7 +10,7 @@ use Rattle.board.specs.declared.Board.{Board}
 use Rattle.board.specs.Boards.{inRange}
 use Rattle.board.specs.Runs.{InBoard}
 use Rattle.board.proofs.Ranges.{passed-in}
-use Rattle.pieces.specs.declared.room.Room.{Room}
+use Rattle.pieces.specs.declared.Room.{Room}
 use Rattle.pieces.specs.Pieces.{handed, asked, roomIn, within, isTaken, leftIn}
 use Rattle.pieces.specs.Hearing.{needed, frontOf}
 use Rattle.pieces.proofs.Single.{handed-is, asked-is, taken-is, short-is, is-taken, broken-is}

@@ -11,7 +11,7 @@ use Rattle.wiring.specs.declared.Module.the-variants.{Keyboard, Modem, Socket}
 use Rattle.feeding.specs.Feeding.{got}
 use Rattle.screen.proofs.Given.{ran-none}
 use Rattle.pieces.specs.declared.front.Front.{Front}
-use Rattle.pieces.specs.declared.room.Room.{Room}
+use Rattle.pieces.specs.declared.Room.{Room}
 use Rattle.pieces.specs.Pieces.{roomIn}
 use Rattle.pieces.specs.Hearing.{heardBy, calls, behind, frontOf, toEach, asks, needed, played}
 use Rattle.pieces.proofs.Rooms.{Fits, tested}

@@ -1,4 +1,4 @@
--- `pieces::room::fits` meets its contract. Assumes nothing.
+-- `pieces::fitting::fits` meets its contract. Assumes nothing.
 use mathlib.Core.Path.{_≡_, refl, sym, ap, _∙_, subst, subst⁻¹}
 use mathlib.Core.List.{List}
 use Prim.Native.Nat.{ℕ, _-_, _≤_, _<_, zero-le}
@@ -9,12 +9,12 @@ use lib.Seq.{take-all}
 use Rattle.feeding.specs.Feeding.{got}
 use Rattle.pieces.specs.declared.front.Front.{Front}
 use Rattle.pieces.specs.declared.front.Heard.{Heard}
-use Rattle.pieces.specs.declared.room.Room.{Room}
+use Rattle.pieces.specs.declared.Room.{Room}
 use Rattle.pieces.specs.Hearing.{heardBy, calls, behind, needed, needsOf, more, leftOver}
 use Rattle.pieces.proofs.Onwards.{behind-one}
 use Rattle.pieces.proofs.Rooms.{tested, one-more, Spent, spent-on, lacking, short, enough, spent-whole}
-use Rattle.pieces.proofs.room.fits.Statement.{statement}
-use Rattle.pieces.proofs.room.fits.Tie as tie
+use Rattle.pieces.proofs.fitting.fits.Statement.{statement}
+use Rattle.pieces.proofs.fitting.fits.Tie as tie
 
 abbrev Inv-loop : tie.InvT-loop
 Inv-loop piece front₀ left₀ i₀ front left i =

@@ -1,8 +1,8 @@
--- `pieces::room::spend` meets its contract. Assumes nothing.
+-- `pieces::fitting::spend` meets its contract. Assumes nothing.
 use borrow.Author.Tests.{le-leb, le-ltb, lt-leb, lt-ltb}
 use Rattle.pieces.specs.Hearing.{leftOver}
-use Rattle.pieces.proofs.room.spend.Statement.{statement}
-use Rattle.pieces.proofs.room.spend.Tie as tie
+use Rattle.pieces.proofs.fitting.spend.Statement.{statement}
+use Rattle.pieces.proofs.fitting.spend.Tie as tie
 
 returns : tie.Need-returns
 unfolding leftOver

@@ -2,17 +2,10 @@
 ghost use mathlib.Core.Path.{_≡_};
 ghost use Rattle.pieces.specs.Pieces.{within};
 ghost use Rattle.pieces.specs.Hearing.{needsOf, leftOver, needed};
+use crate::Room;
 use crate::front::Front;
 use crate::front::Heard;
 use crate::front::hear;
-
-// Bytes for each output: those that there is room for, or those written.
-pub(crate) struct Room {
-    pub keyboard: usize,
-    pub modem: usize,
-    pub socket: usize,
-    pub requests: usize,
-}
 
 // What is left of the room behind a byte.
 pub(crate) enum Left {
