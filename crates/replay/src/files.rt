@@ -1,0 +1,70 @@
+// Files read in portions, and what is told of them on standard error.
+use crate::numbers::grown;
+use crate::texts::add;
+use crate::texts::add_number;
+use crate::texts::first;
+
+// How far a file is between two lines that say so.
+const STRIDE: u64 = 1048576;
+
+// What reading gave: how many bytes of the portion are filled, and whether there may be more after them; where reading
+// failed, what the system says is told already.
+pub(crate) struct Filled {
+    pub(crate) count: usize,
+    pub(crate) more: bool,
+    pub(crate) failed: bool,
+}
+
+// Before the first portion.
+pub(crate) fn unread() -> Filled {
+    Filled {
+        count: 0,
+        more: true,
+        failed: false,
+    }
+}
+
+// Fills a portion, unless the file ends or reading fails before. Pipes hand out less than is asked for, so it asks until
+// all is there: then blocks and portions begin together.
+pub(crate) fn fill(fd: i32, name: &[u8], portion: &mut [u8]) -> Filled {
+    let mut count = 0;
+    while count < portion.len() {
+        let got = libc::read(fd, &mut portion[count..]);
+        if got < 0 {
+            os::fail(name);
+        }
+        let n = io::count(got, &portion[count..]);
+        if n == 0 {
+            return Filled {
+                count,
+                more: false,
+                failed: got < 0,
+            };
+        }
+        count += n;
+    }
+    Filled {
+        count,
+        more: true,
+        failed: false,
+    }
+}
+
+// Writes a line on standard error: the file's name, and words after it.
+pub(crate) fn complain(name: &[u8], words: &[u8]) {
+    io::write_all(libc::STDERR_FILENO, name);
+    io::write_all(libc::STDERR_FILENO, words);
+}
+
+// Says how far a file is where `more` bytes after the first `before` led past a stride.
+pub(crate) fn show_progress(name: &[u8], before: u64, more: usize) {
+    let strides = grown(before, more) / STRIDE;
+    if before / STRIDE == strides {
+        return;
+    }
+    let mut text = [0u8; 48];
+    let mut at = add_number(b": ", strides * STRIDE, &mut text, 0);
+    at = add(b" bytes read\n", &mut text, at);
+    io::write_all(libc::STDERR_FILENO, b".. ");
+    complain(name, first(&text, at));
+}
