@@ -137,24 +137,28 @@ fn add_verdict(
 ) -> usize {
     match verdict {
         Verdict::Clean => add(b": clean\n", line, used),
-        Verdict::Mended(bit) => add_mending(bit, held, last, line, used),
+        Verdict::Mended(bit) => add_mending(bit, arrived(bit, held, last), line, used),
         Verdict::Repeat | Verdict::WrongLength => add_request(request, line, used),
     }
 }
 
-// How a block was mended. The byte that the bit lies in is one of those held, or the last.
-fn add_mending(bit: u8, held: [u8; 17], last: u8, line: &mut [u8], used: usize) -> usize {
+// The byte that a bit lies in, as it arrived: one of those held, or the last.
+fn arrived(bit: u8, held: [u8; 17], last: u8) -> u8 {
     let place = (bit / 8) as usize;
-    let weight = 1u8 << (bit % 8);
-    let mut arrived = last;
     if place < 16 {
-        arrived = held[place];
+        return held[place];
     }
+    last
+}
+
+// How a block was mended: the bit, and the byte that it lies in, as it arrived.
+fn add_mending(bit: u8, byte: u8, line: &mut [u8], used: usize) -> usize {
+    let weight = 1u8 << (bit % 8);
     let mut at = add_number(b": mended, bit ", bit as u64, line, used);
     at = add_number(b" (byte ", (bit / 8) as u64 + 1, line, at);
     at = add_number(b", weight ", weight as u64, line, at);
-    at = add_hex(b"), ", arrived, line, at);
-    at = add_hex(b" became ", arrived ^ weight, line, at);
+    at = add_hex(b"), ", byte, line, at);
+    at = add_hex(b" became ", byte ^ weight, line, at);
     add(b"\n", line, at)
 }
 
@@ -165,31 +169,34 @@ fn add_request(request: [u8; 2], line: &mut [u8], used: usize) -> usize {
     add(b"\n", line, at)
 }
 
-// The totals, with what the links of the board handed out: whether all is written.
-pub(crate) fn write_totals(book: Book, keyboard: u64, modem: u64, socket: u64) -> bool {
-    let mut text = [0u8; 512];
-    let mut at = add_number(b"blocks ", book.blocks, &mut text, 0);
-    at = add_number(b": ", book.clean, &mut text, at);
-    at = add_number(b" clean, ", book.mended, &mut text, at);
-    at = add_number(b" mended, ", book.refused, &mut text, at);
-    at = add_number(
-        b" to be repeated\nresumptions ",
-        book.resumptions,
-        &mut text,
-        at,
-    );
-    at = add_number(b"\nbytes ", book.place, &mut text, at);
-    at = add_number(b", of these ", book.dropped, &mut text, at);
-    at = add_number(
-        b" dropped while waiting\nhanded out: keyboard ",
-        keyboard,
-        &mut text,
-        at,
-    );
-    at = add_number(b", modem ", modem, &mut text, at);
-    at = add_number(b", socket ", socket, &mut text, at);
-    at = add(b" bytes\n", &mut text, at);
-    put(&text, at, book.written)
+// The totals, in three parts: of the blocks, of the bytes, and of what the links of the board handed out. Each says
+// whether all is written.
+pub(crate) fn write_blocks(book: Book) -> bool {
+    let mut line = [0u8; 160];
+    let mut at = add_number(b"blocks ", book.blocks, &mut line, 0);
+    at = add_number(b": ", book.clean, &mut line, at);
+    at = add_number(b" clean, ", book.mended, &mut line, at);
+    at = add_number(b" mended, ", book.refused, &mut line, at);
+    at = add(b" to be repeated\n", &mut line, at);
+    put(&line, at, book.written)
+}
+
+pub(crate) fn write_bytes(book: Book, written: bool) -> bool {
+    let mut lines = [0u8; 160];
+    let mut at = add_number(b"resumptions ", book.resumptions, &mut lines, 0);
+    at = add_number(b"\nbytes ", book.place, &mut lines, at);
+    at = add_number(b", of these ", book.dropped, &mut lines, at);
+    at = add(b" dropped while waiting\n", &mut lines, at);
+    put(&lines, at, written)
+}
+
+pub(crate) fn write_handed(keyboard: u64, modem: u64, socket: u64, written: bool) -> bool {
+    let mut line = [0u8; 160];
+    let mut at = add_number(b"handed out: keyboard ", keyboard, &mut line, 0);
+    at = add_number(b", modem ", modem, &mut line, at);
+    at = add_number(b", socket ", socket, &mut line, at);
+    at = add(b" bytes\n", &mut line, at);
+    put(&line, at, written)
 }
 
 // That a record ends while the receiver waits, where it does so: whether all is written.

@@ -13,6 +13,7 @@ use crate::rows::write_rows;
 use crate::texts::add;
 use crate::texts::add_number;
 use crate::texts::first;
+use page::Screen;
 
 // Plays a record to its end, or until reading it fails: then its end is not told, since it was not reached. No record
 // has more portions than turns.
@@ -44,17 +45,22 @@ fn tell_end(name: &[u8], telling: bool, book: Book, play: Play) {
         return;
     }
     let board = play.board;
-    let screen = board.screen;
-    let cells = screen.cells;
     if telling {
-        let totalled = book::write_totals(book, play.keyboard, play.modem, play.socket);
-        let awaited = book::write_awaited(book.receiver, totalled);
-        let drawn = write_rows(cells, false, awaited);
-        write_cursor(screen.cursor(), drawn);
+        let counted = book::write_bytes(book, book::write_blocks(book));
+        let handed = book::write_handed(play.keyboard, play.modem, play.socket, counted);
+        draw(board.screen, book::write_awaited(book.receiver, handed));
     } else {
+        let cells = board.screen.cells;
         write_rows(cells, true, true);
     }
     complain_of_rest(name, board.receiver.count, play.read);
+}
+
+// The page and its cursor.
+fn draw(screen: Screen, written: bool) {
+    let cells = screen.cells;
+    let drawn = write_rows(cells, false, written);
+    write_cursor(screen.cursor(), drawn);
 }
 
 // A record that ends inside a block is not whole.

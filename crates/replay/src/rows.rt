@@ -2,6 +2,7 @@
 use crate::characters::add_character;
 use crate::texts::add;
 use crate::texts::add_number;
+use crate::texts::first;
 use crate::texts::put;
 use cells::Cell;
 use cursor::Place;
@@ -12,24 +13,22 @@ fn are_alike(a: Cell, b: Cell) -> bool {
     a.ink == b.ink && a.ground == b.ground && a.flash == b.flash && a.inverse == b.inverse
 }
 
-// Adds what sets a terminal to a cell's looks. There are eight colours.
+// The start of what sets a terminal to a cell's looks: its colours, of which there are eight.
+fn colours(cell: Cell) -> [u8; 9] {
+    let mut text = *b"\x1b[0;30;40";
+    text[5] = b'0' + cell.ink % 8;
+    text[8] = b'0' + cell.ground % 8;
+    text
+}
+
+// Adds what sets a terminal to a cell's looks; of a mark that it lacks no character is added.
 fn add_looks(cell: Cell, text: &mut [u8], used: usize) -> usize {
-    let ink = b'0' + cell.ink % 8;
-    let ground = b'0' + cell.ground % 8;
-    let at = add(
-        &[0x1b, b'[', b'0', b';', b'3', ink, b';', b'4', ground],
-        text,
-        used,
-    );
-    if cell.flash && cell.inverse {
-        return add(b";5;7m", text, at);
-    }
-    if cell.flash {
-        return add(b";5m", text, at);
-    }
-    if cell.inverse {
-        return add(b";7m", text, at);
-    }
+    let start = colours(cell);
+    let flash = if cell.flash { 2 } else { 0 };
+    let inverse = if cell.inverse { 2 } else { 0 };
+    let mut at = add(&start, text, used);
+    at = add(first(b";5", flash), text, at);
+    at = add(first(b";7", inverse), text, at);
     add(b"m", text, at)
 }
 
@@ -70,23 +69,22 @@ fn tens(row: u8) -> u8 {
     b'0' + row / 10 % 10
 }
 
+// What stands before a row's characters.
+fn frame(row: u8) -> [u8; 8] {
+    let mut text = *b"row    |";
+    text[4] = tens(row);
+    text[5] = b'0' + row % 10;
+    text
+}
+
 // A row as a line, within its frame.
 fn add_line(cells: [Cell; 1000], row: u8, coloured: bool, text: &mut [u8]) -> usize {
     if coloured {
         let at = add_row(cells, row, true, text, 0);
         return add(b"\x1b[0m\n", text, at);
     }
-    let frame = [
-        b'r',
-        b'o',
-        b'w',
-        b' ',
-        tens(row),
-        b'0' + row % 10,
-        b' ',
-        b'|',
-    ];
-    let mut at = add(&frame, text, 0);
+    let start = frame(row);
+    let mut at = add(&start, text, 0);
     at = add_row(cells, row, false, text, at);
     add(b"|\n", text, at)
 }
