@@ -2,11 +2,10 @@
 // first, so that nothing is written where a value is too large.
 use crate::files::complain;
 use crate::files::fill;
+use crate::files::is_there;
 use crate::files::show_progress;
 use crate::files::unread;
 use crate::numbers::grown;
-use crate::texts::add;
-use crate::texts::add_number;
 use crate::texts::first;
 use crate::texts::put;
 use maker::Made;
@@ -33,53 +32,65 @@ pub(crate) fn send(fd: i32, name: &[u8]) {
 fn can_be_sent(fd: i32, name: &[u8]) -> bool {
     let mut portion = [0u8; VALUES];
     let mut read: u64 = 0;
+    let mut good = true;
     let mut filled = unread();
     let mut turns = u64::MAX;
-    while turns > 0 && filled.more {
+    while turns > 0 && filled.more && good {
         filled = fill(fd, name, &mut portion);
-        let values = first(&portion, filled.count);
-        let at = values::first_large(values);
-        if at < values.len() {
-            complain_of_value(name, values[at], grown(read, at));
-            return false;
-        }
+        good = are_values(name, first(&portion, filled.count), read);
         read = grown(read, filled.count);
         turns -= 1;
     }
-    if read == 0 && !filled.failed {
-        complain(name, b": empty\n");
+    if filled.failed || !good {
+        return false;
     }
-    read > 0 && !filled.failed
+    is_there(name, read)
+}
+
+// Whether bytes are all values; the first stands at this place of the file.
+fn are_values(name: &[u8], bytes: &[u8], read: u64) -> bool {
+    let at = values::first_large(bytes);
+    if at < bytes.len() {
+        complain_of_value(name, bytes[at], grown(read, at));
+        return false;
+    }
+    true
 }
 
 fn complain_of_value(name: &[u8], value: u8, place: u64) {
-    let mut text = [0u8; 96];
-    let mut at = add_number(b": value ", value as u64, &mut text, 0);
-    at = add_number(b" at place ", place, &mut text, at);
-    at = add(b" is above 127; nothing is sent\n", &mut text, at);
-    complain(name, first(&text, at));
+    complain(
+        name,
+        b": value # at place # is above 127; nothing is sent\n",
+        &[value as u64, place],
+    );
 }
 
-// Sends the values of a file. Where another writes to it meanwhile one may be too large now: that ends it.
+// Sends the values of a file.
 fn send_all(fd: i32, name: &[u8]) {
     let mut portion = [0u8; VALUES];
     let mut read: u64 = 0;
+    let mut good = true;
     let mut filled = unread();
     let mut turns = u64::MAX;
-    let mut written = true;
-    while turns > 0 && filled.more && written {
-        let mut out = [0u8; BYTES];
+    while turns > 0 && filled.more && good {
         filled = fill(fd, name, &mut portion);
-        let used = make_all(first(&portion, filled.count), &mut out);
-        if used == 0 && filled.count > 0 {
-            complain(name, b": changed while it was sent\n");
-            return;
-        }
-        written = put(&out, used, written);
+        good = send_part(name, first(&portion, filled.count));
         show_progress(name, read, filled.count);
         read = grown(read, filled.count);
         turns -= 1;
     }
+}
+
+// Sends the blocks of a part: whether all is written. Where another writes to the file meanwhile a value may be too
+// large now: that ends it.
+fn send_part(name: &[u8], values: &[u8]) -> bool {
+    let mut out = [0u8; BYTES];
+    let used = make_all(values, &mut out);
+    if used == 0 && values.len() > 0 {
+        complain(name, b": changed while it was sent\n", &[]);
+        return false;
+    }
+    put(&out, used, true)
 }
 
 // Makes the blocks of values, one after the other: how many bytes they are, 0 where a value is too large.

@@ -2,10 +2,7 @@
 // receiver of its own, so that what it tells is what the receiver did, whatever the board makes of it.
 use crate::numbers::difference;
 use crate::numbers::sum;
-use crate::texts::add;
-use crate::texts::add_hex;
-use crate::texts::add_number;
-use crate::texts::put;
+use crate::texts::tell;
 use reader::Verdict;
 use receiver::Judged;
 use receiver::Phase;
@@ -68,9 +65,10 @@ fn enter(begun: Book, byte: u8) -> Book {
             book = enter_silent(book, phase, following);
         }
         Judged::Block(verdict) => {
-            let arrived = before.held;
             let request = done.request;
-            book = enter_block(book, verdict, before.number, arrived, byte, request);
+            book = counted(book, verdict);
+            let written = tell_block(book, verdict, before, byte, request);
+            book.written = written;
         }
     }
     book.place = sum(book.place, 1);
@@ -86,32 +84,13 @@ fn enter_silent(mut book: Book, before: Phase, after: Phase) -> Book {
         book.dropped = sum(book.dropped, 1);
         return book;
     }
-    let number = book.receiver.number;
-    let mut line = [0u8; 64];
-    let mut at = add_number(b"resumed at ", book.place, &mut line, 0);
-    at = add_number(b", number ", number as u64, &mut line, at);
-    at = add(b"\n", &mut line, at);
-    book.written = put(&line, at, book.written);
+    let number = book.receiver.number as u64;
+    book.written = tell(
+        b"resumed at #, number #\n",
+        &[book.place, number],
+        book.written,
+    );
     book.resumptions = sum(book.resumptions, 1);
-    book
-}
-
-// A block judged: its first sixteen bytes are those held, and `last` is its seventeenth, at the book's place.
-fn enter_block(
-    begun: Book,
-    verdict: Verdict,
-    number: u8,
-    held: [u8; 17],
-    last: u8,
-    request: [u8; 2],
-) -> Book {
-    let mut book = counted(begun, verdict);
-    let mut line = [0u8; 160];
-    let mut at = add_number(b"block ", book.blocks, &mut line, 0);
-    at = add_number(b" at ", difference(book.place, 16), &mut line, at);
-    at = add_number(b", number ", number as u64, &mut line, at);
-    at = add_verdict(verdict, held, last, request, &mut line, at);
-    book.written = put(&line, at, book.written);
     book
 }
 
@@ -126,19 +105,32 @@ fn counted(mut book: Book, verdict: Verdict) -> Book {
     book
 }
 
-// What was said of a block, to the end of its line.
-fn add_verdict(
-    verdict: Verdict,
-    held: [u8; 17],
-    last: u8,
-    request: [u8; 2],
-    line: &mut [u8],
-    used: usize,
-) -> usize {
+// Tells of a block judged, the last that the book counts: its first sixteen bytes are those that were held, and `last`
+// is its seventeenth, at the book's place.
+fn tell_block(book: Book, verdict: Verdict, before: Receiver, last: u8, request: [u8; 2]) -> bool {
+    let place = difference(book.place, 16);
+    let number = before.number as u64;
     match verdict {
-        Verdict::Clean => add(b": clean\n", line, used),
-        Verdict::Mended(bit) => add_mending(bit, arrived(bit, held, last), line, used),
-        Verdict::Repeat | Verdict::WrongLength => add_request(request, line, used),
+        Verdict::Clean => tell(
+            b"block # at #, number #: clean\n",
+            &[book.blocks, place, number],
+            book.written,
+        ),
+        Verdict::Mended(bit) => {
+            let held = before.held;
+            tell_mended(book, place, number, bit, arrived(bit, held, last))
+        }
+        Verdict::Repeat | Verdict::WrongLength => tell(
+            b"block # at #, number #: repeat, request % %\n",
+            &[
+                book.blocks,
+                place,
+                number,
+                request[0] as u64,
+                request[1] as u64,
+            ],
+            book.written,
+        ),
     }
 }
 
@@ -151,67 +143,59 @@ fn arrived(bit: u8, held: [u8; 17], last: u8) -> u8 {
     last
 }
 
-// How a block was mended: the bit, and the byte that it lies in, as it arrived.
-fn add_mending(bit: u8, byte: u8, line: &mut [u8], used: usize) -> usize {
+// The byte with the bit of this weight changed.
+fn flipped(byte: u8, weight: u8) -> u8 {
+    byte ^ weight
+}
+
+// The same of a block that was mended at this bit, in this byte as it arrived.
+fn tell_mended(book: Book, place: u64, number: u64, bit: u8, byte: u8) -> bool {
     let weight = 1u8 << (bit % 8);
-    let mut at = add_number(b": mended, bit ", bit as u64, line, used);
-    at = add_number(b" (byte ", (bit / 8) as u64 + 1, line, at);
-    at = add_number(b", weight ", weight as u64, line, at);
-    at = add_hex(b"), ", byte, line, at);
-    at = add_hex(b" became ", byte ^ weight, line, at);
-    add(b"\n", line, at)
+    let mended = flipped(byte, weight);
+    tell(
+        b"block # at #, number #: mended, bit # (byte #, weight #), % became %\n",
+        &[
+            book.blocks,
+            place,
+            number,
+            bit as u64,
+            (bit / 8) as u64 + 1,
+            weight as u64,
+            byte as u64,
+            mended as u64,
+        ],
+        book.written,
+    )
 }
 
-// That a block is to be repeated, and the two bytes that ask for it.
-fn add_request(request: [u8; 2], line: &mut [u8], used: usize) -> usize {
-    let mut at = add_hex(b": repeat, request ", request[0], line, used);
-    at = add_hex(b" ", request[1], line, at);
-    add(b"\n", line, at)
-}
-
-// The totals, in three parts: of the blocks, of the bytes, and of what the links of the board handed out. Each says
-// whether all is written.
-pub(crate) fn write_blocks(book: Book) -> bool {
-    let mut line = [0u8; 160];
-    let mut at = add_number(b"blocks ", book.blocks, &mut line, 0);
-    at = add_number(b": ", book.clean, &mut line, at);
-    at = add_number(b" clean, ", book.mended, &mut line, at);
-    at = add_number(b" mended, ", book.refused, &mut line, at);
-    at = add(b" to be repeated\n", &mut line, at);
-    put(&line, at, book.written)
-}
-
-pub(crate) fn write_bytes(book: Book, written: bool) -> bool {
-    let mut lines = [0u8; 160];
-    let mut at = add_number(b"resumptions ", book.resumptions, &mut lines, 0);
-    at = add_number(b"\nbytes ", book.place, &mut lines, at);
-    at = add_number(b", of these ", book.dropped, &mut lines, at);
-    at = add(b" dropped while waiting\n", &mut lines, at);
-    put(&lines, at, written)
-}
-
-pub(crate) fn write_handed(keyboard: u64, modem: u64, socket: u64, written: bool) -> bool {
-    let mut line = [0u8; 160];
-    let mut at = add_number(b"handed out: keyboard ", keyboard, &mut line, 0);
-    at = add_number(b", modem ", modem, &mut line, at);
-    at = add_number(b", socket ", socket, &mut line, at);
-    at = add(b" bytes\n", &mut line, at);
-    put(&line, at, written)
-}
-
-// That a record ends while the receiver waits, where it does so: whether all is written.
-pub(crate) fn write_awaited(receiver: Receiver, written: bool) -> bool {
+// Tells the totals, with what the links of the board handed out, and that the record ends while the receiver waits,
+// where it does so: whether all is written.
+pub(crate) fn tell_totals(book: Book, keyboard: u64, modem: u64, socket: u64) -> bool {
+    let blocks = tell(
+        b"blocks #: # clean, # mended, # to be repeated\nresumptions #\n",
+        &[
+            book.blocks,
+            book.clean,
+            book.mended,
+            book.refused,
+            book.resumptions,
+        ],
+        book.written,
+    );
+    let bytes = tell(
+        b"bytes #, of these # dropped while waiting\nhanded out: keyboard #, modem #, socket # bytes\n",
+        &[book.place, book.dropped, keyboard, modem, socket],
+        blocks,
+    );
+    let receiver = book.receiver;
     let phase = receiver.phase;
     let Phase::Waiting(_) = phase else {
-        return written;
+        return bytes;
     };
-    let mut line = [0u8; 64];
-    let mut at = add_number(
-        b"the record ends while block ",
-        receiver.number as u64,
-        &mut line,
-        0,
-    );
-    at = add(b" is awaited\n", &mut line, at);
-    put(&line, at, written)
+    let number = receiver.number as u64;
+    tell(
+        b"the record ends while block # is awaited\n",
+        &[number],
+        bytes,
+    )
 }

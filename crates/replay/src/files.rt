@@ -1,7 +1,6 @@
 // Files read in portions, and what is told of them on standard error.
 use crate::numbers::grown;
-use crate::texts::add;
-use crate::texts::add_number;
+use crate::texts::compose;
 use crate::texts::first;
 
 // How far a file is between two lines that say so.
@@ -50,10 +49,21 @@ pub(crate) fn fill(fd: i32, name: &[u8], portion: &mut [u8]) -> Filled {
     }
 }
 
-// Writes a line on standard error: the file's name, and words after it.
-pub(crate) fn complain(name: &[u8], words: &[u8]) {
+// Writes a line on standard error: the file's name, and a template with its numbers after it.
+pub(crate) fn complain(name: &[u8], template: &[u8], numbers: &[u64]) {
+    let mut text = [0u8; 128];
+    let used = compose(template, numbers, &mut text);
     io::write_all(libc::STDERR_FILENO, name);
-    io::write_all(libc::STDERR_FILENO, words);
+    io::write_all(libc::STDERR_FILENO, first(&text, used));
+}
+
+// Whether a file has any bytes, of which so many are read; an empty one is a fault.
+pub(crate) fn is_there(name: &[u8], read: u64) -> bool {
+    if read == 0 {
+        complain(name, b": empty\n", &[]);
+        return false;
+    }
+    true
 }
 
 // Says how far a file is where `more` bytes after the first `before` led past a stride.
@@ -62,9 +72,6 @@ pub(crate) fn show_progress(name: &[u8], before: u64, more: usize) {
     if before / STRIDE == strides {
         return;
     }
-    let mut text = [0u8; 48];
-    let mut at = add_number(b": ", strides * STRIDE, &mut text, 0);
-    at = add(b" bytes read\n", &mut text, at);
     io::write_all(libc::STDERR_FILENO, b".. ");
-    complain(name, first(&text, at));
+    complain(name, b": # bytes read\n", &[strides * STRIDE]);
 }

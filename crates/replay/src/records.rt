@@ -1,8 +1,10 @@
 // The commands that play a record: `replay` tells it, and `show` shows its page alone.
 use crate::book;
 use crate::book::Book;
+use crate::book::tell_totals;
 use crate::files::complain;
 use crate::files::fill;
+use crate::files::is_there;
 use crate::files::show_progress;
 use crate::files::unread;
 use crate::hut;
@@ -10,8 +12,6 @@ use crate::hut::Play;
 use crate::numbers::difference;
 use crate::rows::write_cursor;
 use crate::rows::write_rows;
-use crate::texts::add;
-use crate::texts::add_number;
 use crate::texts::first;
 use page::Screen;
 
@@ -38,22 +38,30 @@ pub(crate) fn play(fd: i32, name: &[u8], telling: bool) {
     }
 }
 
-// What is told at a record's end.
+// What is told at a record's end. One that ends inside a block is not whole.
 fn tell_end(name: &[u8], telling: bool, book: Book, play: Play) {
-    if play.read == 0 {
-        complain(name, b": empty\n");
+    let board = play.board;
+    let held = board.receiver.count as u64;
+    if !is_there(name, play.read) {
         return;
     }
-    let board = play.board;
     if telling {
-        let counted = book::write_bytes(book, book::write_blocks(book));
-        let handed = book::write_handed(play.keyboard, play.modem, play.socket, counted);
-        draw(board.screen, book::write_awaited(book.receiver, handed));
+        draw(
+            board.screen,
+            tell_totals(book, play.keyboard, play.modem, play.socket),
+        );
     } else {
         let cells = board.screen.cells;
         write_rows(cells, true, true);
     }
-    complain_of_rest(name, board.receiver.count, play.read);
+    if held > 0 {
+        let place = difference(play.read, held);
+        complain(
+            name,
+            b": ends inside a block: # of its 17 bytes, from place #\n",
+            &[held, place],
+        );
+    }
 }
 
 // The page and its cursor.
@@ -61,21 +69,4 @@ fn draw(screen: Screen, written: bool) {
     let cells = screen.cells;
     let drawn = write_rows(cells, false, written);
     write_cursor(screen.cursor(), drawn);
-}
-
-// A record that ends inside a block is not whole.
-fn complain_of_rest(name: &[u8], held: usize, read: u64) {
-    if held == 0 {
-        return;
-    }
-    let mut text = [0u8; 96];
-    let mut at = add_number(b": ends inside a block: ", held as u64, &mut text, 0);
-    at = add_number(
-        b" of its 17 bytes, from place ",
-        difference(read, held as u64),
-        &mut text,
-        at,
-    );
-    at = add(b"\n", &mut text, at);
-    complain(name, first(&text, at));
 }

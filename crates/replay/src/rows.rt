@@ -1,11 +1,10 @@
 // The page as lines of text: with the numbers of its rows and the cursor, or in the colours of a terminal.
 use crate::characters::add_character;
 use crate::texts::add;
-use crate::texts::add_number;
 use crate::texts::first;
 use crate::texts::put;
+use crate::texts::tell;
 use cells::Cell;
-use cursor::Place;
 use page::Cursor;
 
 // Whether two cells look the same but for their characters.
@@ -107,15 +106,15 @@ pub(crate) fn write_rows(cells: [Cell; 1000], coloured: bool, begun: bool) -> bo
 pub(crate) fn write_cursor(cursor: Cursor, written: bool) -> bool {
     match cursor {
         Cursor::Broken => written,
-        Cursor::Hidden(place) => write_place(place, b", hidden\n", written),
-        Cursor::Shown(place) => write_place(place, b", shown\n", written),
+        Cursor::Hidden(at) => tell(
+            b"cursor: row #, column #, hidden\n",
+            &[at.row as u64, at.column as u64],
+            written,
+        ),
+        Cursor::Shown(at) => tell(
+            b"cursor: row #, column #, shown\n",
+            &[at.row as u64, at.column as u64],
+            written,
+        ),
     }
-}
-
-fn write_place(place: Place, words: &[u8], written: bool) -> bool {
-    let mut line = [0u8; 64];
-    let mut at = add_number(b"cursor: row ", place.row as u64, &mut line, 0);
-    at = add_number(b", column ", place.column as u64, &mut line, at);
-    at = add(words, &mut line, at);
-    put(&line, at, written)
 }

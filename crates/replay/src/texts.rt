@@ -42,20 +42,52 @@ pub(crate) fn add(words: &[u8], text: &mut [u8], used: usize) -> usize {
     at
 }
 
-// Adds words and a number after them, in decimal.
-pub(crate) fn add_number(words: &[u8], n: u64, text: &mut [u8], used: usize) -> usize {
-    let mut digits = [0u8; 20];
-    let k = io::decimal(n, &mut digits);
-    let at = add(words, text, used);
-    add(&digits[..k], text, at)
+// Adds a character of a template: `#` stands for a number in decimal, `%` for the two hex digits of a byte, and any
+// other for itself.
+fn add_mark(mark: u8, n: u64, text: &mut [u8], used: usize) -> usize {
+    match mark {
+        b'#' => {
+            let mut digits = [0u8; 20];
+            let k = io::decimal(n, &mut digits);
+            add(&digits[..k], text, used)
+        }
+        b'%' => {
+            let mut digits = [0u8; 16];
+            let k = io::hex(n, 2, &mut digits);
+            add(&digits[..k], text, used)
+        }
+        _ => add(&[mark], text, used),
+    }
 }
 
-// Adds words and the two hex digits of a byte after them.
-pub(crate) fn add_hex(words: &[u8], byte: u8, text: &mut [u8], used: usize) -> usize {
-    let mut digits = [0u8; 16];
-    let k = io::hex(byte as u64, 2, &mut digits);
-    let at = add(words, text, used);
-    add(&digits[..k], text, at)
+// Makes a text of a template and the numbers that stand in it, in turn: how long it is.
+pub(crate) fn compose(template: &[u8], numbers: &[u64], text: &mut [u8]) -> usize {
+    let mut used = 0;
+    let mut next = 0;
+    let mut i = 0;
+    while i < template.len() {
+        let mark = template[i];
+        used = add_mark(mark, number_at(numbers, next), text, used);
+        next = after(mark, next);
+        i += 1;
+    }
+    used
+}
+
+// The place of the number that stands after a character of a template.
+fn after(mark: u8, next: usize) -> usize {
+    if next < usize::MAX && (mark == b'#' || mark == b'%') {
+        return next + 1;
+    }
+    next
+}
+
+// The number at a place, 0 where there is none.
+fn number_at(numbers: &[u64], at: usize) -> u64 {
+    if at < numbers.len() {
+        return numbers[at];
+    }
+    0
 }
 
 // Writes the first `used` bytes of a text on standard output, unless something before them could not be written: whether
@@ -69,4 +101,12 @@ pub(crate) fn put(text: &[u8], used: usize, written: bool) -> bool {
     }
     os::fail(b"standard output");
     false
+}
+
+// Writes a template with its numbers on standard output, as `put` does. No line that is told is longer than the room
+// here.
+pub(crate) fn tell(template: &[u8], numbers: &[u64], written: bool) -> bool {
+    let mut text = [0u8; 400];
+    let used = compose(template, numbers, &mut text);
+    put(&text, used, written)
 }

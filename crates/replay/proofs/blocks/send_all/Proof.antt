@@ -6,11 +6,11 @@ use Rattle.replay.proofs.blocks.send_all.Statement.{statement}
 use Rattle.replay.proofs.blocks.send_all.Tie as tie
 
 abbrev Inv-loop : tie.InvT-loop
-Inv-loop fd name portion₀ read₀ filled₀ turns₀ written₀ t10 portion read filled turns written =
+Inv-loop fd name portion₀ read₀ good₀ filled₀ turns₀ portion read good filled turns =
     length portion ≡ 3840
 
 abbrev μ-loop : tie.MeasureT-loop
-μ-loop fd name portion₀ read₀ filled₀ turns₀ written₀ t10 portion read filled turns written = turns
+μ-loop fd name portion₀ read₀ good₀ filled₀ turns₀ portion read good filled turns = turns
 
 unread-requires : tie.Need-unread-requires Inv-loop μ-loop
 unread-requires c κs = search needs
@@ -30,26 +30,8 @@ slice-aggregate-first c = search needs
 first-requires : tie.Need-first-requires Inv-loop μ-loop
 first-requires c κs = search needs
 
-slice-aggregate-make-all : tie.Need-slice-aggregate-make-all Inv-loop μ-loop
-slice-aggregate-make-all c = search needs
-
-make-all-requires : tie.Need-make-all-requires Inv-loop μ-loop
-make-all-requires c κs = search needs
-
-slice-aggregate-complain : tie.Need-slice-aggregate-complain Inv-loop μ-loop
-slice-aggregate-complain c = search needs
-
-complain-requires : tie.Need-complain-requires Inv-loop μ-loop
-complain-requires c κs = search needs
-
-returns : tie.Need-returns Inv-loop μ-loop
-returns c = search needs
-
-slice-aggregate-put : tie.Need-slice-aggregate-put Inv-loop μ-loop
-slice-aggregate-put c = search needs
-
-put-requires : tie.Need-put-requires Inv-loop μ-loop
-put-requires c κs = search needs
+send-part-requires : tie.Need-send-part-requires Inv-loop μ-loop
+send-part-requires c κs = search needs
 
 show-progress-requires : tie.Need-show-progress-requires Inv-loop μ-loop
 show-progress-requires c κs = search needs
@@ -66,14 +48,14 @@ loop-less c = search needs
 loop-again : tie.Need-loop-again Inv-loop μ-loop
 loop-again c = search needs
 
+returns : tie.Need-returns Inv-loop μ-loop
+returns c = search needs
+
 returns-2 : tie.Need-returns-2 Inv-loop μ-loop
 returns-2 c = search needs
 
 returns-3 : tie.Need-returns-3 Inv-loop μ-loop
 returns-3 c = search needs
-
-returns-4 : tie.Need-returns-4 Inv-loop μ-loop
-returns-4 c = search needs
 
 pub send-all-spec : {M : Type 1} → statement M
 send-all-spec =
@@ -87,18 +69,12 @@ send-all-spec =
     fill-requires
     slice-aggregate-first
     first-requires
-    slice-aggregate-make-all
-    make-all-requires
-    slice-aggregate-complain
-    complain-requires
-    returns
-    slice-aggregate-put
-    put-requires
+    send-part-requires
     show-progress-requires
     grown-requires
     sub-turns
     loop-less
     loop-again
+    returns
     returns-2
-    returns-3
-    returns-4)
+    returns-3)
