@@ -105,6 +105,20 @@ fn counted(mut book: Book, verdict: Verdict) -> Book {
     book
 }
 
+// The byte that a bit lies in, as it arrived: one of those held, or the last.
+fn arrived(bit: u8, held: [u8; 17], last: u8) -> u8 {
+    let place = (bit / 8) as usize;
+    if place < 16 {
+        return held[place];
+    }
+    last
+}
+
+// The byte with the bit of this weight changed.
+fn flipped(byte: u8, weight: u8) -> u8 {
+    byte ^ weight
+}
+
 // Tells of a block judged, the last that the book counts: its first sixteen bytes are those that were held, and `last`
 // is its seventeenth, at the book's place.
 fn tell_block(book: Book, verdict: Verdict, before: Receiver, last: u8, request: [u8; 2]) -> bool {
@@ -132,20 +146,6 @@ fn tell_block(book: Book, verdict: Verdict, before: Receiver, last: u8, request:
             book.written,
         ),
     }
-}
-
-// The byte that a bit lies in, as it arrived: one of those held, or the last.
-fn arrived(bit: u8, held: [u8; 17], last: u8) -> u8 {
-    let place = (bit / 8) as usize;
-    if place < 16 {
-        return held[place];
-    }
-    last
-}
-
-// The byte with the bit of this weight changed.
-fn flipped(byte: u8, weight: u8) -> u8 {
-    byte ^ weight
 }
 
 // The same of a block that was mended at this bit, in this byte as it arrived.

@@ -23,8 +23,8 @@ pub(crate) fn unread() -> Filled {
     }
 }
 
-// Fills a portion, unless the file ends or reading fails before. Pipes hand out less than is asked for, so it asks until
-// all is there: then blocks and portions begin together.
+// Fills a portion, unless the file ends or reading fails before. A pipe may hand out less than is asked for, so it asks
+// until all is there: then a portion of values is always so many whole blocks.
 pub(crate) fn fill(fd: i32, name: &[u8], portion: &mut [u8]) -> Filled {
     let mut count = 0;
     while count < portion.len() {

@@ -8,7 +8,8 @@ use page::Screen;
 use receiver::Receiver;
 use sending::Bytes;
 
-// As many bytes as the screen may get of a piece, of the blocks that end in it: one before it may lack a byte alone.
+// As many bytes as the screen may get of a piece: the blocks that end in it carry at most fifteen values more than it
+// has bytes, and no value sends more than five.
 const ROOM: usize = 5 * (4096 + 15);
 
 pub(crate) struct Board {

@@ -90,8 +90,8 @@ fn number_at(numbers: &[u64], at: usize) -> u64 {
     0
 }
 
-// Writes the first `used` bytes of a text on standard output, unless something before them could not be written: whether
-// all is written so far. The first failure gets a line on standard error.
+// Writes the first `used` bytes of a text on standard output, unless something before them could not be written:
+// whether all is written so far. The first failure gets a line on standard error.
 pub(crate) fn put(text: &[u8], used: usize, written: bool) -> bool {
     if !written {
         return false;

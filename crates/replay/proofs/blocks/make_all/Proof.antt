@@ -1,9 +1,9 @@
--- `replay::blocks::make_all` is safe and ends. Assumes nothing.
+-- `replay::blocks::make_all` is safe and ends: a block put into the output leaves its length. Assumes nothing.
 use Prim.Native.Nat.{ℕ, _≤_, _+_, _-_}
 use mathlib.Core.Path.{_≡_, _∙_, subst⁻¹}
 use lib.ListN.{length}
 use borrow.Author.Needs.{needs}
-use borrow.Rule.Slice.PartMut.{putMid, same-len-mid}
+use borrow.Rule.Slice.PartMut.{same-len-mid}
 use Rattle.replay.proofs.blocks.make_all.Statement.{statement}
 use Rattle.replay.proofs.blocks.make_all.Tie as tie
 
@@ -66,12 +66,9 @@ loop-again : tie.Need-loop-again Inv-loop μ-loop
 loop-again c =
     let m = c .before .before .before .before in
     let l = m .before .before .before .before .before .loop in
-    let same : length (putMid (l .used) (length (l .out) - l .used) (l .out) (m .make-next .last .1 .0)) ≡ length (l .out) =
-    same-len-mid (l .used) (length (l .out) - l .used) (l .out) (m .make-next .last .1 .0) (m .make-next .kept .1 .0) in (
-      search needs,
-      subst⁻¹ (λ (n : ℕ). l .used + 17 ≤ n) same (search needs),
-      same ∙ l .inv .2,
-    )
+    let ys = m .make-next .last .1 .0 in
+    let same = same-len-mid (l .used) (length (l .out) - l .used) (l .out) ys (m .make-next .kept .1 .0) in
+    (search needs, subst⁻¹ (λ (n : ℕ). l .used + 17 ≤ n) same (search needs), same ∙ l .inv .2)
 
 same-length-3 : tie.Need-same-length-3 Inv-loop μ-loop
 same-length-3 c = search needs
