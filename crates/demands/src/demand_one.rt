@@ -1,32 +1,26 @@
-// Demand 1: any bytes are taken in a finite run; whatever is wrong has its number and leaves lent memory as the
-// papers say. That every call ends, stays within the memory lent to it and asks nothing of its caller is the
-// checker's own verdict: every function is proved total, and no public one has a `requires`.
-ghost use mathlib.Core.Path.{_≡_};
-ghost use mathlib.Core.List.{List, []};
-ghost use Prim.Native.Nat.{ℕ};
-ghost use Rattle.numbers.specs.Numbers.{Conditions, numberOf, GivenExactly};
-ghost use Rattle.maker.specs.declared.Made.{Made};
-ghost use Rattle.maker.specs.Making.{makeNumber, makeLeft, told as toldMade};
-ghost use Rattle.reader.specs.declared.Verdict.{Verdict};
-ghost use Rattle.reader.specs.Judging.{judged, left, handed, judgeConditions, told as toldVerdict};
+// Demand 1: any bytes from line, keyboard or socket are taken in a finite run, and no entry point trusts its caller.
+// Each number is given exactly when 01 says so, in its order 1, 5, 2, 4, 3, and leaves what it must.
 
-// A number is given exactly when its condition holds and none before it in the order 1, 5, 2, 4, 3 does. The
-// judge's number comes of the paper's conditions: the block has not seventeen bytes, or no valid block is within
-// one mendable bit. (The maker's comes of them by definition.)
-pub fn each_number_is_given_exactly_when()
-    ensures order { λ _. ⌜ ((c : Conditions) → GivenExactly c) ⌝ }
-    ensures judging { λ _. ⌜ ((B : List ℕ) → judged B .number ≡ numberOf (judgeConditions B)) ⌝ }
-{}
+// the maker and the judge
+pub use block_demands::demand_one::an_answer_is_told_in_one_way;
+pub use block_demands::demand_one::each_number_is_given_exactly_when;
+pub use block_demands::demand_one::refusals_leave_what_was_lent;
 
-// A refusal leaves the maker's output as it was; it leaves the lent block as it came, and hands back an empty part.
-pub fn refusals_leave_what_was_lent()
-    ensures making { λ _. ⌜ ((vs O : List ℕ) → (makeNumber vs O ≡ 0 → ⊥) → makeLeft vs O ≡ O) ⌝ }
-    ensures judging { λ _. ⌜ ((B : List ℕ) → (judged B .number ≡ 0 → ⊥) → (left B ≡ B) × (handed B ≡ [])) ⌝ }
-{}
+// the receiver: 5, and 0 also where a repeat is asked
+pub use line_demands::states::a_broken_state_is_handed_back;
+pub use line_demands::states::each_call_gives_its_number as each_call_of_a_receiver_gives_its_number;
 
-// Two answers that tell the same number, and name the same place or bit, are the same: each promise is met by one
-// outcome only.
-pub fn an_answer_is_told_in_one_way()
-    ensures making { λ _. ⌜ ((m n : Made) → toldMade m ≡ toldMade n → m ≡ n) ⌝ }
-    ensures judging { λ _. ⌜ ((v w : Verdict) → toldVerdict v ≡ toldVerdict w → v ≡ w) ⌝ }
-{}
+// the screen: 5 and 2
+pub use screen_demands::states::each_call_gives_its_number as each_call_of_a_screen_gives_its_number;
+pub use screen_demands::states::every_step_keeps_the_range as every_step_of_a_screen_keeps_the_range;
+
+// the links: 5 and 2
+pub use link_demands::states::at_most_five_small_bytes;
+pub use link_demands::states::each_call_gives_its_number as each_call_of_the_links_gives_its_number;
+pub use link_demands::states::every_call_keeps_the_range as every_call_of_the_links_keeps_the_range;
+
+// the board: 5 and 2; for a piece of line bytes 5 and 4
+pub use board_demands::a_piece_gives_its_number;
+pub use board_demands::each_call_gives_its_number as each_call_of_a_board_gives_its_number;
+pub use board_demands::every_event_keeps_the_range as every_event_of_a_board_keeps_the_range;
+pub use board_demands::seventy_five_places_suffice;

@@ -1,49 +1,48 @@
-// Demand 2: blocks are made and read by the Minitel 1B specification. What the maker writes the reader hands back;
-// a block read clean is what the maker would write.
-ghost use mathlib.Core.Path.{_≡_};
-ghost use mathlib.Core.List.{List, _++_};
-ghost use mathlib.Core.Logic.{_↔_};
-ghost use Prim.Native.Nat.{ℕ, _+_, _-_, _^_, _≤_, _<_};
-ghost use lib.ListN.{length, getD, set, replicate};
-ghost use Rattle.values.specs.Large.{Values};
-ghost use Rattle.division.specs.Division.{bits};
-ghost use Rattle.division.specs.Polynomials.{polynomial, GeneratorDivides};
-ghost use Rattle.validity.specs.Block.{codeBits, remainder, Valid, Bytes};
-ghost use Rattle.validity.specs.Changed.{flip};
-ghost use Rattle.validity.specs.Units.{unit};
-ghost use Rattle.maker.specs.Making.{useful, blockOf, valuesOf};
-ghost use Rattle.reader.specs.declared.Verdict.the-variants.{Clean};
-ghost use Rattle.reader.specs.Judging.{verdict, handed, mendable};
+// Demand 2: blocks are made and read by the Minitel 1B specification; receiver, screen, links and replies follow it as
+// far as the papers go, and the papers where these decide.
 
-// The remainder is zero exactly when the generator x^7 + x^3 + 1 divides the code bits as a polynomial.
-pub fn nothing_is_left_exactly_when_the_generator_divides()
-    ensures { λ _. ⌜ ((B : List ℕ) → remainder B ≡ 0 ↔ GeneratorDivides (codeBits B)) ⌝ }
-{}
+// a block
+pub use block_demands::demand_two::changing_a_bit_changes_that_bit_alone;
+pub use block_demands::demand_two::each_code_bit_stands_for_its_power;
+pub use block_demands::demand_two::nothing_is_left_exactly_when_the_generator_divides;
+pub use block_demands::demand_two::read_clean_is_what_the_maker_writes;
+pub use block_demands::demand_two::what_the_maker_writes_the_reader_hands_back;
 
-// The bit in place k of bytes 1 to 15 stands for power 126 - k; weight 2^i of byte 16, in place 120 + i, stands for
-// power i. There are as many code bits as bits that may be mended.
-pub fn each_code_bit_stands_for_its_power()
-    ensures useful { λ _. ⌜ ((k : ℕ) → k < 120 → polynomial 0 (codeBits (unit k)) ≡ 2 ^ (126 - k)) ⌝ }
-    ensures check { λ _. ⌜ ((i : ℕ) → i < 7 → polynomial 0 (codeBits (unit (120 + i))) ≡ 2 ^ i) ⌝ }
-    ensures mendable { λ _. ⌜ ((B : List ℕ) → length B ≡ 17 → length (codeBits B) ≡ mendable) ⌝ }
-{}
+// the receiver: a repeat request names the awaited block; between two switchings the number moves only when a block is
+// accepted
+pub use line_demands::runs::a_request_names_the_awaited_block;
+pub use line_demands::runs::a_run_is_the_run_over_its_parts;
+pub use line_demands::runs::every_run_follows_the_page;
+pub use line_demands::runs::places_past_the_held_never_matter;
+pub use line_demands::runs::switching_starts_afresh;
+pub use line_demands::runs::the_number_counts_accepted_blocks;
+pub use line_demands::runs::waiting_ends_at_the_first_resumption;
 
-// Changing bit k changes exactly the bit in place k of block order.
-pub fn changing_a_bit_changes_that_bit_alone()
-    ensures { λ _. ⌜ ((k : ℕ) (B : List ℕ) → k < 136 → length B ≡ 17
-        → bits (flip k B) ≡ set (bits B) k (1 - getD (bits B) k 0)) ⌝ }
-{}
+// the screen
+pub use screen_demands::changes::a_c0_code_ends_a_sequence;
+pub use screen_demands::changes::a_waiting_ground_has_one_fate;
+pub use screen_demands::changes::nothing_is_inverse_in_g1;
+pub use screen_demands::changes::only_characters_and_ff_change_a_cell;
+pub use screen_demands::changes::rep_is_single_characters;
+pub use screen_demands::pieces::a_run_is_its_single_steps;
+pub use screen_demands::rows::lf_returns_from_row_0;
+pub use screen_demands::rows::no_move_crosses_into_row_0;
 
-// Every made block is valid; judged, it is clean; handed back are the values with parity, filled up with NUL;
-// without parity they are the values again.
-pub fn what_the_maker_writes_the_reader_hands_back()
-    ensures { λ _. ⌜ ((vs : List ℕ) → length vs ≤ 15 → Values vs
-        → Valid (blockOf vs) × (verdict (blockOf vs) ≡ Clean)
-        × (handed (blockOf vs) ≡ useful vs)
-        × (valuesOf (blockOf vs) ≡ vs ++ replicate (15 - length vs) 0)) ⌝ }
-{}
+// the links: what is passed on
+pub use link_demands::flow::all_but_the_commands_comes_through;
+pub use link_demands::flow::esc_goes_with_its_next_code;
+pub use link_demands::flow::keys_change_nothing;
+pub use link_demands::flow::values_go_by_the_links;
+pub use link_demands::states::the_host_chooses_a_table;
 
-// Bytes judged clean are exactly what the maker writes for their fifteen values.
-pub fn read_clean_is_what_the_maker_writes()
-    ensures { λ _. ⌜ ((B : List ℕ) → Bytes B → verdict B ≡ Clean → B ≡ blockOf (valuesOf B)) ⌝ }
-{}
+// the links: commands and replies
+pub use link_demands::replying::a_command_is_known_by_its_codes;
+pub use link_demands::replying::a_reply_goes_to_the_sender_alone;
+pub use link_demands::replying::a_status_tells_the_table;
+pub use link_demands::replying::commands_are_taken_out_of_the_flow;
+pub use link_demands::replying::exactly_so_many_codes_are_taken;
+pub use link_demands::replying::one_link_changes;
+
+// the board
+pub use board_demands::a_cut_changes_nothing;
+pub use board_demands::each_part_goes_its_own_way;

@@ -1,7 +1,13 @@
-// What Outaksel promises of a block, demand by demand; line_demands has the line. Each function here does nothing:
-// its contract is a theorem about what the other crates define, so that the check's log names it. Reading these files
-// is reading the promises; their words are those of the specs/ of numbers, division, parity, validity, maker and
-// reader, and each is proved in the crate whose words it speaks.
+// The three demands, as a table of contents: each line names a theorem that stands, proved, in the crate from which it
+// is handed on. A theorem is the contract of a function that does nothing, and its statement is to be read there, in
+// full, above two braces with nothing between them. docs/PROMISES.md says each in words, what it rests on, and which
+// wrong programs it refuses.
+//
+// Demand 1, any bytes are taken in a finite run, is also the checker's own verdict on every function of every crate: it
+// accepts only functions that end and stay within the memory lent to them, and no public one asks anything of its
+// caller.
+pub mod bench_cards;
 pub mod demand_one;
 pub mod demand_three;
 pub mod demand_two;
+pub mod the_line_whole;

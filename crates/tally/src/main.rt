@@ -3,7 +3,7 @@
 // `tally N`, with N from 1 to 4, or 4 where it is not given: for each n from 1 to N every pattern of n different upset
 // bits among the 136 of seventeen zeros is judged, and a line says how many patterns there are, and how many of them
 // were passed as clean, mended back to the block, mended into another block, and refused. That the same numbers hold
-// for every valid block is a theorem, `one_count_holds_for_every_block` of crate demands.
+// for every valid block is a theorem, `one_count_holds_for_every_block` of block_demands.
 use reader::Verdict;
 
 // A line on standard error says how far the count is, each time that so many patterns are judged.

@@ -1,0 +1,10 @@
+-- The theorem is proved where its words are. Assumes nothing.
+use Rattle.reader.proofs.Verdicts.{once-whole}
+use Rattle.block_demands.proofs.demand_three.hit_once_comes_back_whole.Statement.{statement}
+use Rattle.block_demands.proofs.demand_three.hit_once_comes_back_whole.Tie as tie
+
+returns : tie.Need-returns
+returns c = once-whole
+
+pub hit-once-comes-back-whole-spec : {M : Type 1} → statement M
+hit-once-comes-back-whole-spec = tie.close (tie.spec returns)

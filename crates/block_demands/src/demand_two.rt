@@ -1,0 +1,49 @@
+// Demand 2: blocks are made and read by the Minitel 1B specification. What the maker writes the reader hands back;
+// a block read clean is what the maker would write.
+ghost use mathlib.Core.Path.{_≡_};
+ghost use mathlib.Core.List.{List, _++_};
+ghost use mathlib.Core.Logic.{_↔_};
+ghost use Prim.Native.Nat.{ℕ, _+_, _-_, _^_, _≤_, _<_};
+ghost use lib.ListN.{length, getD, set, replicate};
+ghost use Rattle.values.specs.Large.{Values};
+ghost use Rattle.division.specs.Division.{bits};
+ghost use Rattle.division.specs.Polynomials.{polynomial, GeneratorDivides};
+ghost use Rattle.validity.specs.Block.{codeBits, remainder, Valid, Bytes};
+ghost use Rattle.validity.specs.Changed.{flip};
+ghost use Rattle.validity.specs.Units.{unit};
+ghost use Rattle.maker.specs.Making.{useful, blockOf, valuesOf};
+ghost use Rattle.reader.specs.declared.Verdict.the-variants.{Clean};
+ghost use Rattle.reader.specs.Judging.{verdict, handed, mendable};
+
+// The remainder is zero exactly when the generator x^7 + x^3 + 1 divides the code bits as a polynomial.
+pub fn nothing_is_left_exactly_when_the_generator_divides()
+    ensures { λ _. ⌜ ((B : List ℕ) → remainder B ≡ 0 ↔ GeneratorDivides (codeBits B)) ⌝ }
+{}
+
+// The bit in place k of bytes 1 to 15 stands for power 126 - k; weight 2^i of byte 16, in place 120 + i, stands for
+// power i. There are as many code bits as bits that may be mended.
+pub fn each_code_bit_stands_for_its_power()
+    ensures useful { λ _. ⌜ ((k : ℕ) → k < 120 → polynomial 0 (codeBits (unit k)) ≡ 2 ^ (126 - k)) ⌝ }
+    ensures check { λ _. ⌜ ((i : ℕ) → i < 7 → polynomial 0 (codeBits (unit (120 + i))) ≡ 2 ^ i) ⌝ }
+    ensures mendable { λ _. ⌜ ((B : List ℕ) → length B ≡ 17 → length (codeBits B) ≡ mendable) ⌝ }
+{}
+
+// Changing bit k changes exactly the bit in place k of block order.
+pub fn changing_a_bit_changes_that_bit_alone()
+    ensures { λ _. ⌜ ((k : ℕ) (B : List ℕ) → k < 136 → length B ≡ 17
+        → bits (flip k B) ≡ set (bits B) k (1 - getD (bits B) k 0)) ⌝ }
+{}
+
+// Every made block is valid; judged, it is clean; handed back are the values with parity, filled up with NUL;
+// without parity they are the values again.
+pub fn what_the_maker_writes_the_reader_hands_back()
+    ensures { λ _. ⌜ ((vs : List ℕ) → length vs ≤ 15 → Values vs
+        → Valid (blockOf vs) × (verdict (blockOf vs) ≡ Clean)
+        × (handed (blockOf vs) ≡ useful vs)
+        × (valuesOf (blockOf vs) ≡ vs ++ replicate (15 - length vs) 0)) ⌝ }
+{}
+
+// Bytes judged clean are exactly what the maker writes for their fifteen values.
+pub fn read_clean_is_what_the_maker_writes()
+    ensures { λ _. ⌜ ((B : List ℕ) → Bytes B → verdict B ≡ Clean → B ≡ blockOf (valuesOf B)) ⌝ }
+{}
