@@ -2,8 +2,8 @@
 //
 // `lines` does what single calls of `line` would do one after the other, with the ranges tested once. Where an output
 // lacks room for what the whole piece yields, nothing is taken and no output is touched: so the piece is heard twice,
-// first to see what room it takes (fitting.rt), and then for good (playing.rt). specs/Pieces says what `lines` promises;
-// proofs/ shows that hearing byte by byte comes to that.
+// first to see what room it takes (fitting.rt), and then for good (playing.rt). specs/Pieces says what `lines`
+// promises; proofs/ shows that hearing byte by byte comes to that.
 ghost use mathlib.Core.Path.{_≡_};
 ghost use Rattle.wiring.specs.declared.Module.the-variants.{Keyboard, Modem, Socket};
 ghost use Rattle.pieces.specs.Pieces.{refused, roomIn, linesOf, isTaken, handed, asked, leftIn};
