@@ -7,8 +7,8 @@
 // what acts on one is small.
 use crate::loading::screen_of;
 use crate::parts::first;
+use crate::parts::first_mut;
 use crate::receiving::state_of;
-use crate::telling::Rooms;
 use crate::telling::answer;
 use crate::telling::dump;
 use crate::telling::hear;
@@ -22,6 +22,7 @@ use crate::words::decimal;
 use crate::words::part;
 use crate::words::place_among;
 use board::Board;
+use board::Outcome;
 
 // What words ask of the board.
 enum Wish {
@@ -29,6 +30,14 @@ enum Wish {
     Nothing,
     Dump,
     Fresh,
+    // One part as given, and the others as they are.
+    Load,
+    Lines,
+    Call(Call),
+}
+
+// A call of the board's own.
+enum Call {
     On,
     Off,
     Ask,
@@ -37,50 +46,41 @@ enum Wish {
     Line(u8),
     Key(u8),
     Socket(u8),
-    // One part as given, and the others as they are.
-    Load,
-    Lines,
 }
 
 // Reads a command, from its second word on; what is long in it is read where it is taken.
 fn wish_of(words: &[u8], known: &mut bool) -> Wish {
     let given = after(words, b' ', 1);
-    let wish = match place_among(part(words, b' ', 0), b"line key socket to rx lnk scr lines") {
-        0 => Wish::Line(byte(given, known)),
-        1 => Wish::Key(byte(given, known)),
-        2 => Wish::Socket(byte(given, known)),
-        3 => choice_of(given, known),
-        4..=6 => Wish::Load,
-        7 => Wish::Lines,
-        _ => plain_of(words, known),
+    let wish = match place_among(part(words, b' ', 0), b"rx lnk scr lines line key socket to") {
+        0..=2 => Wish::Load,
+        3 => Wish::Lines,
+        4 => Wish::Call(Call::Line(byte(given, known))),
+        5 => Wish::Call(Call::Key(byte(given, known))),
+        6 => Wish::Call(Call::Socket(byte(given, known))),
+        7 => choice_of(given),
+        _ => plain_of(words),
     };
     if *known { wish } else { Wish::Nothing }
 }
 
 // `local` and `connected` after `to`.
-fn choice_of(name: &[u8], known: &mut bool) -> Wish {
+fn choice_of(name: &[u8]) -> Wish {
     match place_among(name, b"local connected") {
-        0 => Wish::ToLocal,
-        1 => Wish::ToConnected,
-        _ => {
-            *known = false;
-            Wish::Nothing
-        }
+        0 => Wish::Call(Call::ToLocal),
+        1 => Wish::Call(Call::ToConnected),
+        _ => Wish::Nothing,
     }
 }
 
 // The commands of one word.
-fn plain_of(name: &[u8], known: &mut bool) -> Wish {
+fn plain_of(name: &[u8]) -> Wish {
     match place_among(name, b"dump fresh on off ask") {
         0 => Wish::Dump,
         1 => Wish::Fresh,
-        2 => Wish::On,
-        3 => Wish::Off,
-        4 => Wish::Ask,
-        _ => {
-            *known = false;
-            Wish::Nothing
-        }
+        2 => Wish::Call(Call::On),
+        3 => Wish::Call(Call::Off),
+        4 => Wish::Call(Call::Ask),
+        _ => Wish::Nothing,
     }
 }
 
@@ -89,19 +89,29 @@ fn plain_of(name: &[u8], known: &mut bool) -> Wish {
 pub(crate) fn obey(words: &[u8], now: Board, known: &mut bool) -> Board {
     let wish = wish_of(words, known);
     match wish {
-        Wish::Nothing => now,
+        Wish::Nothing => {
+            *known = false;
+            now
+        }
         Wish::Dump => dump(now),
         Wish::Fresh => put(Board::fresh()),
-        Wish::On => answer(now.switch_on()),
-        Wish::Off => answer(now.switch_off()),
-        Wish::Ask => answer(now.ask_again()),
-        Wish::ToLocal => answer(now.with_local()),
-        Wish::ToConnected => answer(now.with_connected()),
-        Wish::Line(byte) => answer(now.line(byte)),
-        Wish::Key(value) => answer(now.key(value)),
-        Wish::Socket(value) => answer(now.socket(value)),
         Wish::Load => load(words, now, known),
         Wish::Lines => lines(after(words, b' ', 1), now, known),
+        Wish::Call(call) => answer(called(call, now)),
+    }
+}
+
+// What comes of a call.
+fn called(call: Call, now: Board) -> Outcome {
+    match call {
+        Call::On => now.switch_on(),
+        Call::Off => now.switch_off(),
+        Call::Ask => now.ask_again(),
+        Call::ToLocal => now.with_local(),
+        Call::ToConnected => now.with_connected(),
+        Call::Line(byte) => now.line(byte),
+        Call::Key(value) => now.key(value),
+        Call::Socket(value) => now.socket(value),
     }
 }
 
@@ -126,30 +136,56 @@ fn load(words: &[u8], now: Board, known: &mut bool) -> Board {
     now
 }
 
-// The room that the word after so many others names.
-fn room_of(word: &[u8], known: &mut bool) -> usize {
-    let room = decimal(word);
-    if room > LARGEST {
-        *known = false;
-    }
-    room
+// How many bytes a piece has, and how many each output has room for.
+struct Sizes {
+    piece: usize,
+    keyboard: usize,
+    modem: usize,
+    socket: usize,
+    requests: usize,
 }
 
-// `lines BYTES KEYBOARD MODEM SOCKET REQUESTS`, from its bytes on.
-fn lines(words: &[u8], now: Board, known: &mut bool) -> Board {
-    let mut piece = [0u8; LARGEST];
-    let n = bytes_of(part(words, b' ', 0), &mut piece);
-    let rooms = Rooms {
-        keyboard: room_of(part(words, b' ', 1), known),
-        modem: room_of(part(words, b' ', 2), known),
-        socket: room_of(part(words, b' ', 3), known),
-        requests: room_of(after(words, b' ', 4), known),
-    };
-    if n > LARGEST {
+// A size that a word names; none is above LARGEST.
+fn size(named: usize, known: &mut bool) -> usize {
+    if named > LARGEST {
         *known = false;
     }
+    named
+}
+
+// BYTES KEYBOARD MODEM SOCKET REQUESTS, with the bytes put into `piece`.
+fn sizes_of(words: &[u8], piece: &mut [u8], known: &mut bool) -> Sizes {
+    Sizes {
+        piece: size(bytes_of(part(words, b' ', 0), piece), known),
+        keyboard: size(decimal(part(words, b' ', 1)), known),
+        modem: size(decimal(part(words, b' ', 2)), known),
+        socket: size(decimal(part(words, b' ', 3)), known),
+        requests: size(decimal(after(words, b' ', 4)), known),
+    }
+}
+
+// `lines`, from its bytes on.
+fn lines(words: &[u8], now: Board, known: &mut bool) -> Board {
+    let mut piece = [0u8; LARGEST];
+    let sizes = sizes_of(words, &mut piece, known);
     if *known {
-        return hear(now, first(&piece, n), rooms);
+        return lend(now, first(&piece, sizes.piece), sizes);
     }
     now
+}
+
+// The same with its outputs. Their bytes are ee before the call, so that untouched ones show.
+fn lend(now: Board, piece: &[u8], sizes: Sizes) -> Board {
+    let mut keyboard = [0xeeu8; LARGEST];
+    let mut modem = [0xeeu8; LARGEST];
+    let mut socket = [0xeeu8; LARGEST];
+    let mut requests = [0xeeu8; LARGEST];
+    hear(
+        now,
+        piece,
+        first_mut(&mut keyboard, sizes.keyboard),
+        first_mut(&mut modem, sizes.modem),
+        first_mut(&mut socket, sizes.socket),
+        first_mut(&mut requests, sizes.requests),
+    )
 }

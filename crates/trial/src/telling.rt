@@ -4,26 +4,16 @@
 // A board is larger than a screen, and a proof pays for each that a function holds: so few functions do, and each has
 // one place where the answer is written.
 use crate::parts::first;
-use crate::parts::first_mut;
 use crate::receiving::write_state as write_receiver;
 use crate::showing::write_cells;
 use crate::showing::write_pen;
 use crate::wires::write_links;
-use crate::words::LARGEST;
 use crate::words::write_bytes;
 use crate::words::write_count;
 use board::Answer;
 use board::Board;
 use board::Outcome;
 use feeding::Outlet;
-
-// How much room each output has.
-pub(crate) struct Rooms {
-    pub(crate) keyboard: usize,
-    pub(crate) modem: usize,
-    pub(crate) socket: usize,
-    pub(crate) requests: usize,
-}
 
 // `dump`.
 pub(crate) fn dump(now: Board) -> Board {
@@ -54,34 +44,21 @@ pub(crate) fn answer(done: Outcome) -> Board {
     next
 }
 
-// A piece of the line. The outputs' bytes are ee before the call, so that untouched ones show.
-pub(crate) fn hear(now: Board, piece: &[u8], rooms: Rooms) -> Board {
-    let mut lent_keyboard = [0xeeu8; LARGEST];
-    let mut lent_modem = [0xeeu8; LARGEST];
-    let mut lent_socket = [0xeeu8; LARGEST];
-    let mut lent_requests = [0xeeu8; LARGEST];
-    let keyboard = first_mut(&mut lent_keyboard, rooms.keyboard);
-    let modem = first_mut(&mut lent_modem, rooms.modem);
-    let socket = first_mut(&mut lent_socket, rooms.socket);
-    let requests = first_mut(&mut lent_requests, rooms.requests);
+// A piece of the line: the call, and what it handed back.
+pub(crate) fn hear(
+    now: Board,
+    piece: &[u8],
+    keyboard: &mut [u8],
+    modem: &mut [u8],
+    socket: &mut [u8],
+    requests: &mut [u8],
+) -> Board {
     let done = pieces::lines(now, piece, keyboard, modem, socket, requests);
     let said = done.answer;
-    let number = match said {
-        pieces::Answer::Taken => 0,
-        pieces::Answer::NoRoom => 4,
-        pieces::Answer::Broken => 5,
-    };
-    io::print_decimal(1, number);
-    write_output(b" keyboard", keyboard);
-    write_output(b" modem", modem);
-    write_output(b" socket", socket);
-    write_output(b" request", requests);
-    io::write_all(1, b" used");
-    write_count(b'=', done.keyboard);
-    write_count(b',', done.modem);
-    write_count(b',', done.socket);
-    write_count(b',', done.requests);
     let next = done.next;
+    write_piece_answer(said);
+    write_outputs(keyboard, modem, socket, requests);
+    write_used(done.keyboard, done.modem, done.socket, done.requests);
     write_state(next);
     next
 }
@@ -96,13 +73,40 @@ fn write_answer(answer: Answer) {
     io::print_decimal(1, number);
 }
 
+// The same for a piece.
+fn write_piece_answer(answer: pieces::Answer) {
+    let number = match answer {
+        pieces::Answer::Taken => 0,
+        pieces::Answer::NoRoom => 4,
+        pieces::Answer::Broken => 5,
+    };
+    io::print_decimal(1, number);
+}
+
 // Writes a name, and bytes after it.
 fn write_output(name: &[u8], bytes: &[u8]) {
     io::write_all(1, name);
     write_bytes(b'=', bytes);
 }
 
-// The same for what a single call hands out.
+// All four outputs after a piece.
+fn write_outputs(keyboard: &[u8], modem: &[u8], socket: &[u8], requests: &[u8]) {
+    write_output(b" keyboard", keyboard);
+    write_output(b" modem", modem);
+    write_output(b" socket", socket);
+    write_output(b" request", requests);
+}
+
+// How many bytes the piece wrote to each.
+fn write_used(keyboard: usize, modem: usize, socket: usize, requests: usize) {
+    io::write_all(1, b" used");
+    write_count(b'=', keyboard);
+    write_count(b',', modem);
+    write_count(b',', socket);
+    write_count(b',', requests);
+}
+
+// The bytes that a single call hands out.
 fn write_outlet(name: &[u8], outlet: Outlet) {
     let codes = outlet.codes;
     write_output(name, first(&codes, outlet.count));
