@@ -4,21 +4,16 @@
 // NUMBER keyboard=BYTES modem=BYTES socket=BYTES request=BYTES STATE, with used=N,N,N,N before STATE for `brd lines`.
 //
 // A board is larger than a screen, and a proof pays for each that a function holds: so words are read without one, and
-// what acts on one is small.
+// what acts on one is small. piecing.rt has `brd lines`, and telling.rt writes the answers.
 use crate::loading::screen_of;
-use crate::parts::first;
-use crate::parts::first_mut;
+use crate::piecing::lines;
 use crate::receiving::state_of;
 use crate::telling::answer;
 use crate::telling::dump;
-use crate::telling::hear;
 use crate::telling::put;
 use crate::wires::links_of;
-use crate::words::LARGEST;
 use crate::words::after;
 use crate::words::byte;
-use crate::words::bytes as bytes_of;
-use crate::words::decimal;
 use crate::words::part;
 use crate::words::place_among;
 use board::Board;
@@ -134,58 +129,4 @@ fn load(words: &[u8], now: Board, known: &mut bool) -> Board {
         });
     }
     now
-}
-
-// How many bytes a piece has, and how many each output has room for.
-struct Sizes {
-    piece: usize,
-    keyboard: usize,
-    modem: usize,
-    socket: usize,
-    requests: usize,
-}
-
-// A size that a word names; none is above LARGEST.
-fn size(named: usize, known: &mut bool) -> usize {
-    if named > LARGEST {
-        *known = false;
-    }
-    named
-}
-
-// BYTES KEYBOARD MODEM SOCKET REQUESTS, with the bytes put into `piece`.
-fn sizes_of(words: &[u8], piece: &mut [u8], known: &mut bool) -> Sizes {
-    Sizes {
-        piece: size(bytes_of(part(words, b' ', 0), piece), known),
-        keyboard: size(decimal(part(words, b' ', 1)), known),
-        modem: size(decimal(part(words, b' ', 2)), known),
-        socket: size(decimal(part(words, b' ', 3)), known),
-        requests: size(decimal(after(words, b' ', 4)), known),
-    }
-}
-
-// `lines`, from its bytes on.
-fn lines(words: &[u8], now: Board, known: &mut bool) -> Board {
-    let mut piece = [0u8; LARGEST];
-    let sizes = sizes_of(words, &mut piece, known);
-    if *known {
-        return lend(now, first(&piece, sizes.piece), sizes);
-    }
-    now
-}
-
-// The same with its outputs. Their bytes are ee before the call, so that untouched ones show.
-fn lend(now: Board, piece: &[u8], sizes: Sizes) -> Board {
-    let mut keyboard = [0xeeu8; LARGEST];
-    let mut modem = [0xeeu8; LARGEST];
-    let mut socket = [0xeeu8; LARGEST];
-    let mut requests = [0xeeu8; LARGEST];
-    hear(
-        now,
-        piece,
-        first_mut(&mut keyboard, sizes.keyboard),
-        first_mut(&mut modem, sizes.modem),
-        first_mut(&mut socket, sizes.socket),
-        first_mut(&mut requests, sizes.requests),
-    )
 }

@@ -13,6 +13,7 @@
 // linking.rt    the commands of the links
 // wires.rt      the words that name a state of the links, and such a state as words
 // boarding.rt   the commands of the whole board; each further family of commands is such a file
+// piecing.rt    its command for a piece of the line
 // telling.rt    what the board hands back as words
 mod blocks;
 mod boarding;
@@ -20,6 +21,7 @@ mod lines;
 mod linking;
 mod loading;
 mod parts;
+mod piecing;
 mod receiving;
 mod screening;
 mod showing;

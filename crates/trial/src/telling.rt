@@ -9,7 +9,6 @@ use crate::showing::write_cells;
 use crate::showing::write_pen;
 use crate::wires::write_links;
 use crate::words::write_bytes;
-use crate::words::write_count;
 use board::Answer;
 use board::Board;
 use board::Outcome;
@@ -44,25 +43,6 @@ pub(crate) fn answer(done: Outcome) -> Board {
     next
 }
 
-// A piece of the line: the call, and what it handed back.
-pub(crate) fn hear(
-    now: Board,
-    piece: &[u8],
-    keyboard: &mut [u8],
-    modem: &mut [u8],
-    socket: &mut [u8],
-    requests: &mut [u8],
-) -> Board {
-    let done = pieces::lines(now, piece, keyboard, modem, socket, requests);
-    let said = done.answer;
-    let next = done.next;
-    write_piece_answer(said);
-    write_outputs(keyboard, modem, socket, requests);
-    write_used(done.keyboard, done.modem, done.socket, done.requests);
-    write_state(next);
-    next
-}
-
 // The number that a call answered.
 fn write_answer(answer: Answer) {
     let number = match answer {
@@ -73,37 +53,10 @@ fn write_answer(answer: Answer) {
     io::print_decimal(1, number);
 }
 
-// The same for a piece.
-fn write_piece_answer(answer: pieces::Answer) {
-    let number = match answer {
-        pieces::Answer::Taken => 0,
-        pieces::Answer::NoRoom => 4,
-        pieces::Answer::Broken => 5,
-    };
-    io::print_decimal(1, number);
-}
-
 // Writes a name, and bytes after it.
-fn write_output(name: &[u8], bytes: &[u8]) {
+pub(crate) fn write_output(name: &[u8], bytes: &[u8]) {
     io::write_all(1, name);
     write_bytes(b'=', bytes);
-}
-
-// All four outputs after a piece.
-fn write_outputs(keyboard: &[u8], modem: &[u8], socket: &[u8], requests: &[u8]) {
-    write_output(b" keyboard", keyboard);
-    write_output(b" modem", modem);
-    write_output(b" socket", socket);
-    write_output(b" request", requests);
-}
-
-// How many bytes the piece wrote to each.
-fn write_used(keyboard: usize, modem: usize, socket: usize, requests: usize) {
-    io::write_all(1, b" used");
-    write_count(b'=', keyboard);
-    write_count(b',', modem);
-    write_count(b',', socket);
-    write_count(b',', requests);
 }
 
 // The bytes that a single call hands out.
@@ -118,7 +71,7 @@ fn write_request(request: [u8; 2], asked: usize) {
 }
 
 // All of a state but the cells.
-fn write_state(state: Board) {
+pub(crate) fn write_state(state: Board) {
     let screen = state.screen;
     write_receiver(b" rx", state.receiver);
     write_links(state.links);

@@ -8,12 +8,14 @@ use Rattle.trial.proofs.run.Tie as tie
 
 abbrev Inv-loop : tie.InvT-loop
 Inv-loop
-    fd name portion₀ line₀ receiver₀ screen₀ links₀ board₀ at₀ number₀ portion line receiver screen links board at number =
+    fd name portion₀ line₀ receiver₀ screen₀ links₀ board₀ at₀ number₀
+    portion line receiver screen links board at number =
     (length portion ≡ 65536) × (length line ≡ 9000)
 
 abbrev μ-loop : tie.MeasureT-loop
 μ-loop
-    fd name portion₀ line₀ receiver₀ screen₀ links₀ board₀ at₀ number₀ portion line receiver screen links board at number =
+    fd name portion₀ line₀ receiver₀ screen₀ links₀ board₀ at₀ number₀
+    portion line receiver screen links board at number =
     18446744073709551615 - number
 
 large-buffer-requires : tie.Need-large-buffer-requires Inv-loop μ-loop
