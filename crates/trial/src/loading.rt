@@ -13,13 +13,14 @@ use attributes::Attributes;
 use attributes::Waiting;
 use cells::Cell;
 use cursor::Place;
+use page::Screen;
 use pen::Kept;
 use pen::Last;
 use pen::Pen;
 use sequences::Sequence;
 
 // Whether a word names the thousand cells: seven digits each, of which the last two are 0 or 1.
-pub(crate) fn are_cells(word: &[u8]) -> bool {
+fn are_cells(word: &[u8]) -> bool {
     if word.len() != 7000 {
         return false;
     }
@@ -47,7 +48,7 @@ fn cell_of(seven: &[u8]) -> Cell {
 }
 
 // The cells that such a word names.
-pub(crate) fn cells_of(word: &[u8]) -> [Cell; 1000] {
+fn cells_of(word: &[u8]) -> [Cell; 1000] {
     let blank = cells::blank();
     let mut cells = [blank; 1000];
     let mut i = 0;
@@ -133,7 +134,7 @@ fn kept_of(numbers: &[u8], good: &mut bool) -> Kept {
 }
 
 // CUR ATTR LAST KEPT PEND.
-pub(crate) fn pen_of(words: &[u8], good: &mut bool) -> Pen {
+fn pen_of(words: &[u8], good: &mut bool) -> Pen {
     let cursor = part(words, b' ', 0);
     Pen {
         place: place_of(cursor, good),
@@ -143,4 +144,15 @@ pub(crate) fn pen_of(words: &[u8], good: &mut bool) -> Pen {
         sequence: sequence_of(after(words, b' ', 4), good),
         shown: number(after(cursor, b',', 2), 1, good) == 1,
     }
+}
+
+// CELLS CUR ATTR LAST KEPT PEND, in range or not.
+pub(crate) fn screen_of(words: &[u8], good: &mut bool) -> Screen {
+    let word = part(words, b' ', 0);
+    if !are_cells(word) {
+        *good = false;
+    }
+    let cells = cells_of(word);
+    let pen = pen_of(after(words, b' ', 1), good);
+    Screen { cells, pen }
 }

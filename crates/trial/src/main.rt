@@ -10,19 +10,26 @@
 // screening.rt  the commands of the screen
 // loading.rt    the words that name a screen's state
 // showing.rt    a screen's state as words
-// linking.rt    the commands of the links; each further family of commands is such a file
+// linking.rt    the commands of the links
 // wires.rt      the words that name a state of the links, and such a state as words
+// boarding.rt   the commands of the whole board; each further family of commands is such a file
+// piecing.rt    its command for a piece of the line
+// telling.rt    what the board hands back as words
 mod blocks;
+mod boarding;
 mod lines;
 mod linking;
 mod loading;
 mod parts;
+mod piecing;
 mod receiving;
 mod screening;
 mod showing;
+mod telling;
 mod wires;
 mod words;
 
+use board::Board;
 use lines::At;
 use lines::LONGEST;
 use links::Links;
@@ -47,7 +54,7 @@ fn family(line: &[u8], length: usize) -> usize {
     if length > LONGEST {
         return NONE;
     }
-    place_among(part(line, b' ', 0), b"make judge rx scr lnk")
+    place_among(part(line, b' ', 0), b"make judge rx scr lnk brd")
 }
 
 // Ends the answer to a line, which is `? NUMBER` where it is no command; false where it could not be written.
@@ -64,14 +71,15 @@ fn end(known: bool, number: u64) -> bool {
 }
 
 // Runs one script to its end, or until an answer cannot be written. `name` is for error lines. The receiver, the
-// screen and the links are held here alone, and handed on for their own commands; no script has more lines than a u64
-// counts.
+// screen, the links and the board are held here alone, and handed on for their own commands; no script has more lines
+// than a u64 counts.
 fn run(fd: i32, name: &[u8]) {
     let mut portion = io::large_buffer();
     let mut line = [0u8; LONGEST];
     let mut receiver = Receiver::new();
     let mut screen = Screen::fresh();
     let mut links = Links::local();
+    let mut board = Board::fresh();
     let mut at = At {
         from: 0,
         to: 0,
@@ -92,6 +100,7 @@ fn run(fd: i32, name: &[u8]) {
                 2 => receiver = receiving::obey(words, receiver, &mut known),
                 3 => screen = screening::obey(words, screen, &mut known),
                 4 => links = linking::obey(words, links, &mut known),
+                5 => board = boarding::obey(words, board, &mut known),
                 _ => known = false,
             }
             if !end(known, number) {

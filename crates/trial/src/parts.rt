@@ -8,7 +8,15 @@ pub(crate) fn first(s: &[u8], n: usize) -> &[u8] {
     s
 }
 
-// The bytes after those.
+// The same of memory that is written.
+pub(crate) fn first_mut(s: &mut [u8], n: usize) -> &mut [u8] {
+    if n < s.len() {
+        return &mut s[0..n];
+    }
+    s
+}
+
+// The bytes after the first.
 pub(crate) fn past(s: &[u8], n: usize) -> &[u8] {
     if n < s.len() {
         return &s[n..];

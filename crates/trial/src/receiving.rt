@@ -9,6 +9,7 @@ use crate::words::field;
 use crate::words::part;
 use crate::words::place_among;
 use crate::words::write_bytes;
+use crate::words::write_count;
 use crate::words::write_number;
 use receiver::Phase;
 use receiver::Receiver;
@@ -50,7 +51,7 @@ fn obey_words(words: &[u8], now: Receiver, known: &mut bool) -> Receiver {
 }
 
 // PHASE NUMBER COUNT SEEN HELD, in range or not. SEEN is part of a state in waiting alone.
-fn state_of(words: &[u8], good: &mut bool) -> Receiver {
+pub(crate) fn state_of(words: &[u8], good: &mut bool) -> Receiver {
     let mut held = [0u8; 17];
     if bytes_of(after(words, b' ', 4), &mut held) != 17 {
         *good = false;
@@ -69,8 +70,9 @@ fn state_of(words: &[u8], good: &mut bool) -> Receiver {
     }
 }
 
-// The state as answers have it. A broken one may count more bytes than there are; then all of them are shown.
-fn write_state(r: Receiver) {
+// The state as answers have it, after its name there. A broken one may count more bytes than there are; then all of
+// them are shown.
+pub(crate) fn write_state(name: &[u8], r: Receiver) {
     let phase = r.phase;
     let held = r.held;
     let mut number = 0;
@@ -85,11 +87,10 @@ fn write_state(r: Receiver) {
             seen = codes;
         }
     }
-    io::write_all(1, b" state");
+    io::write_all(1, name);
     write_number(b'=', number);
     write_number(b',', r.number);
-    io::write_all(1, b",");
-    io::print_decimal(1, r.count as u64);
+    write_count(b',', r.count);
     write_number(b',', seen);
     write_bytes(b',', first(&held, r.count));
 }
@@ -104,13 +105,13 @@ fn answer(done: Stepped) -> Receiver {
     write_bytes(b'=', first(&values, done.passed));
     io::write_all(1, b" modem");
     write_bytes(b'=', first(&request, done.asked));
-    write_state(next);
+    write_state(b" state", next);
     next
 }
 
 // A state that no call made: nothing goes out.
 fn put(state: Receiver) -> Receiver {
     io::write_all(1, b"0 passed=- modem=-");
-    write_state(state);
+    write_state(b" state", state);
     state
 }

@@ -3,9 +3,7 @@
 //
 // A screen is large, and a proof pays for each that a function holds: so words are read without one, and what acts on
 // one is small.
-use crate::loading::are_cells;
-use crate::loading::cells_of;
-use crate::loading::pen_of;
+use crate::loading::screen_of;
 use crate::parts::first;
 use crate::showing::spelled;
 use crate::showing::write_cells;
@@ -122,12 +120,9 @@ fn take_all(word: &[u8], now: Screen, known: &mut bool) -> Screen {
 
 // `load CELLS CUR ATTR LAST KEPT PEND`, from its cells on.
 fn load(words: &[u8], now: Screen, known: &mut bool) -> Screen {
-    let word = part(words, b' ', 0);
-    *known = are_cells(word);
-    let pen = pen_of(after(words, b' ', 1), known);
+    let state = screen_of(words, known);
     if *known {
-        let cells = cells_of(word);
-        return put(Screen { cells, pen });
+        return put(state);
     }
     now
 }

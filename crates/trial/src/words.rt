@@ -6,8 +6,12 @@ use crate::parts::append;
 use crate::parts::first;
 use bytes::scan::find;
 
-// As many bytes as a word of a block command may name, and any word of an answer but for all the cells.
+// As many bytes as a word of a block command may name.
 pub(crate) const MOST: usize = 64;
+
+// The largest number of the format: as many bytes as a piece of the line may have, and each of its outputs. No other
+// word of an answer names more bytes, but for all the cells.
+pub(crate) const LARGEST: usize = 600;
 
 // What is answered where a word names nothing: above every count and number, so that whoever tests for a largest one
 // refuses it too.
@@ -114,8 +118,8 @@ pub(crate) fn byte(word: &[u8], good: &mut bool) -> u8 {
     one[0]
 }
 
-// The decimal number that a word names, or NONE where it names none, or one above 255: the format has no larger.
-fn decimal(word: &[u8]) -> usize {
+// The decimal number that a word names, or NONE where it names none, or one above LARGEST.
+pub(crate) fn decimal(word: &[u8]) -> usize {
     if word.len() == 0 || word.len() > 1 && digit(word, 0) == 0 {
         return NONE;
     }
@@ -127,7 +131,7 @@ fn decimal(word: &[u8]) -> usize {
             return NONE;
         }
         number = number * 10 + d as usize;
-        if number > 255 {
+        if number > LARGEST {
             return NONE;
         }
         i += 1;
@@ -163,9 +167,9 @@ fn pair(byte: u8) -> [u8; 2] {
     [letter(byte / 16), letter(byte % 16)]
 }
 
-// Writes a mark, and bytes as a word after it, `-` for none; no answer has a word of more than MOST.
+// Writes a mark, and bytes as a word after it, `-` for none; there are at most LARGEST of them.
 pub(crate) fn write_bytes(mark: u8, bytes: &[u8]) {
-    let mut text = [mark; 1 + 2 * MOST];
+    let mut text = [mark; 1 + 2 * LARGEST];
     text[1] = b'-';
     let mut at = 1;
     let mut i = 0;
@@ -180,8 +184,13 @@ pub(crate) fn write_bytes(mark: u8, bytes: &[u8]) {
     io::write_all(1, first(&text, at));
 }
 
-// Writes a mark and a number after it.
-pub(crate) fn write_number(mark: u8, n: u8) {
+// Writes a mark and a count after it.
+pub(crate) fn write_count(mark: u8, n: usize) {
     io::write_all(1, &[mark]);
     io::print_decimal(1, n as u64);
+}
+
+// The same for a number that is a byte.
+pub(crate) fn write_number(mark: u8, n: u8) {
+    write_count(mark, n as usize);
 }

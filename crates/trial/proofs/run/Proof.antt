@@ -7,11 +7,15 @@ use Rattle.trial.proofs.run.Statement.{statement}
 use Rattle.trial.proofs.run.Tie as tie
 
 abbrev Inv-loop : tie.InvT-loop
-Inv-loop fd name portion₀ line₀ receiver₀ screen₀ links₀ at₀ number₀ portion line receiver screen links at number =
+Inv-loop
+    fd name portion₀ line₀ receiver₀ screen₀ links₀ board₀ at₀ number₀
+    portion line receiver screen links board at number =
     (length portion ≡ 65536) × (length line ≡ 9000)
 
 abbrev μ-loop : tie.MeasureT-loop
-μ-loop fd name portion₀ line₀ receiver₀ screen₀ links₀ at₀ number₀ portion line receiver screen links at number =
+μ-loop
+    fd name portion₀ line₀ receiver₀ screen₀ links₀ board₀ at₀ number₀
+    portion line receiver screen links board at number =
     18446744073709551615 - number
 
 large-buffer-requires : tie.Need-large-buffer-requires Inv-loop μ-loop
@@ -25,6 +29,9 @@ fresh-requires c κs = search needs
 
 local-requires : tie.Need-local-requires Inv-loop μ-loop
 local-requires c κs = search needs
+
+fresh-requires-2 : tie.Need-fresh-requires-2 Inv-loop μ-loop
+fresh-requires-2 c κs = search needs
 
 loop-holds : tie.Need-loop-holds Inv-loop μ-loop
 loop-holds c = search needs
@@ -71,6 +78,9 @@ obey-requires-2 c κs = search needs
 obey-requires-3 : tie.Need-obey-requires-3 Inv-loop μ-loop
 obey-requires-3 c κs = search needs
 
+obey-requires-4 : tie.Need-obey-requires-4 Inv-loop μ-loop
+obey-requires-4 c κs = search needs
+
 end-requires : tie.Need-end-requires Inv-loop μ-loop
 end-requires c κs = search needs
 
@@ -99,6 +109,7 @@ run-spec =
     new-requires
     fresh-requires
     local-requires
+    fresh-requires-2
     loop-holds
     slice-aggregate-cut
     slice-aggregate-cut-2
@@ -114,6 +125,7 @@ run-spec =
     obey-requires
     obey-requires-2
     obey-requires-3
+    obey-requires-4
     end-requires
     add-number
     loop-less

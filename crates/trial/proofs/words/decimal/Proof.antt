@@ -6,7 +6,7 @@ use Rattle.trial.proofs.words.decimal.Statement.{statement}
 use Rattle.trial.proofs.words.decimal.Tie as tie
 
 abbrev Inv-loop : tie.InvT-loop
-Inv-loop word number₀ i₀ number i = number ≤ 255
+Inv-loop word number₀ i₀ number i = number ≤ 600
 
 abbrev μ-loop : tie.MeasureT-loop
 μ-loop word number₀ i₀ number i = length word - i

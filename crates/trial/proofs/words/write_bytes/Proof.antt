@@ -7,7 +7,7 @@ use Rattle.trial.proofs.words.write_bytes.Statement.{statement}
 use Rattle.trial.proofs.words.write_bytes.Tie as tie
 
 abbrev Inv-loop : tie.InvT-loop
-Inv-loop mark bytes text₀ at₀ i₀ text at i = (i ≤ length bytes) × (length text ≡ 129)
+Inv-loop mark bytes text₀ at₀ i₀ text at i = (i ≤ length bytes) × (length text ≡ 1201)
 
 abbrev μ-loop : tie.MeasureT-loop
 μ-loop mark bytes text₀ at₀ i₀ text at i = length bytes - i
