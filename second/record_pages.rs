@@ -97,7 +97,7 @@ pub fn looks() -> Vec<u8> {
         page.extend(b"ab c");
     }
     page.extend(us(24, 1));
-    page.extend([ESC, 0x5d, b'X', REP, ZERO + 40, b'Y']);
+    page.extend([ESC, 0x5d, b'N', REP, ZERO + 40, b'Y']);
     page
 }
 
