@@ -1,0 +1,10 @@
+-- `receiver::Receiver::new` meets its contract. Assumes nothing.
+use mathlib.Core.Path.{refl}
+use Rattle.receiver.proofs.Receiver.new.Statement.{statement}
+use Rattle.receiver.proofs.Receiver.new.Tie as tie
+
+returns : tie.Need-returns
+returns c = refl
+
+pub new-spec : {M : Type 1} → statement M
+new-spec = tie.close (tie.spec returns)
