@@ -1,13 +1,11 @@
 -- In every run each part of a board goes its own way. Assumes nothing.
 use mathlib.Core.Path.{_≡_, refl, sym, ap, ap₂, _∙_, subst, subst⁻¹}
-use mathlib.Core.List.{List, [], _∷_, _++_, append-nil, append-assoc}
-use Prim.Native.Nat.{ℕ, _-_}
-use lib.ListN.{replicate, length}
-use lib.Seq.{take-append-seam}
+use mathlib.Core.List.{List, [], _∷_, _++_, append-nil}
+use Prim.Native.Nat.{ℕ}
 use Rattle.receiver.specs.declared.Receiver.{Receiver}
 use Rattle.receiver.specs.Runs.{Event as Heard, byte, on, off, ask, obey as receiverObey, sentBy}
-use Rattle.receiver.specs.Runs.{run as receiverRun, Sent, sent, allAsked}
-use Rattle.receiver.proofs.Kept.{keeps, run-append as heard-append, sent-append}
+use Rattle.receiver.specs.Runs.{run as receiverRun, sent, allAsked}
+use Rattle.receiver.proofs.Kept.{keeps, run-append as heard-append, sent-append, asked-append}
 use Rattle.wiring.specs.declared.Module.{Module}
 use Rattle.wiring.specs.declared.Module.the-variants.{Screen, Keyboard, Modem, Socket}
 use Rattle.links.specs.declared.Links.{Links}
@@ -16,6 +14,7 @@ use Rattle.links.specs.Runs.{Call, key as keyCall, value, toLocal as localCall,
 use Rattle.links.specs.Runs.{obey as linksObey, given, run as linksRun}
 use Rattle.links.proofs.Ranges.{run-kept}
 use Rattle.feeding.specs.Feeding.{fromLine, got, outlet, contents, fed}
+use Rattle.feeding.proofs.Outlets.{held}
 use Rattle.feeding.proofs.Suffices.{run-append, got-append, small-got}
 use Rattle.page.specs.declared.Screen.{Screen as Page}
 use Rattle.page.specs.Ranges.{InScreen}
@@ -28,10 +27,6 @@ use Rattle.board.specs.Calls.{following, followed, passing, passedOn}
 use Rattle.board.specs.Runs.{Event, front, key, socket, toLocal, toConnected, obeyFront, obey, run}
 use Rattle.board.specs.Runs.{outTo, request, handedTo, requests, heardIn, callsIn, Outside, InBoard, Goes}
 use Rattle.board.proofs.Ranges.{tested}
-
--- what an outlet holds
-held : (vs : List ℕ) → contents (outlet vs) ≡ vs
-held vs = take-append-seam vs (replicate (75 - length vs) 0)
 
 -- ---- one call
 
@@ -107,12 +102,6 @@ call-alone c b i =
     })
 
 -- ---- one way, then another
-
-pub asked-append : (os ps : List Sent) → allAsked (os ++ ps) ≡ allAsked os ++ allAsked ps
-asked-append [] ps = refl
-asked-append (o ∷ os) ps =
-    ap (λ (x : List ℕ). o .asked ++ x) (asked-append os ps)
-    ∙ sym (append-assoc (o .asked) (allAsked os) (allAsked ps))
 
 further : {b c d : Board} {hs gs : List Heard} {cs ds : List Call} {outs more : Module → List ℕ} {qs ps : List ℕ}
     → InBoard b → Goes b c hs cs outs qs → Goes c d gs ds more ps

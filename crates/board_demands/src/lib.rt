@@ -15,7 +15,7 @@ ghost use Rattle.board.specs.Boards.{freshBoard, inRange};
 ghost use Rattle.board.specs.Calls.{told, refused};
 ghost use Rattle.board.specs.Runs.{Event, obey, run, handedTo, requests, heardIn, callsIn, Goes, InBoard, tooLarge};
 ghost use Rattle.board.specs.Runs.{callTold};
-ghost use Rattle.pieces.specs.declared.Room.{Room};
+ghost use Rattle.front.specs.declared.Room.{Room};
 ghost use Rattle.pieces.specs.Pieces.{told as pieceTold, linesOf, linesTold, isTaken, singly, handed, asked};
 
 // In every run of a board in range each part goes its own way: the receiver hears the line bytes, switchings and

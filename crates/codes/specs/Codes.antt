@@ -13,6 +13,10 @@ use Rattle.codes.specs.declared.Listened.the-variants.{Seen, Resumed}
 abbrev pub plainly : ℕ → ℕ
 plainly b = cond (even b) (b % 128) 127
 
+-- "the number rises by one (15 becomes 0)"
+abbrev pub next : ℕ → ℕ
+next x = (x + 1) % 16
+
 -- ---- codes with parity; that SYN and NACK carry it is a theorem
 
 -- SYN (1/6)

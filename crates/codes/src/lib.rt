@@ -1,8 +1,9 @@
 // The codes that pass between the hut and the sender (01, "The receiver"; 001, sections 5-3-5 and 5-3-6): a byte by
-// itself, the request for a block, and the codes with which the sender begins again. specs/Codes says what each is;
-// proofs/Seen shows that counting the synchronising codes to two is looking at the last three bytes.
+// itself, the numbers of the blocks, the request for one, and the codes with which the sender begins again. specs/Codes
+// says what each is; proofs/Numbered shows that the numbers count modulo 16, and proofs/Seen that counting the
+// synchronising codes to two is looking at the last three bytes.
 ghost use mathlib.Core.Path.{_≡_};
-ghost use Rattle.codes.specs.Codes.{plainly, four as fourOf, request as requestFor, listened};
+ghost use Rattle.codes.specs.Codes.{plainly, next, four as fourOf, request as requestFor, listened};
 
 // What a byte makes of the waiting for a block.
 pub enum Listened {
@@ -20,6 +21,13 @@ pub fn plain(byte: u8) -> u8
     } else {
         127
     }
+}
+
+// The number of the block behind this one.
+pub fn next_number(number: u8) -> u8
+    ensures { λ r. ⌜ r ≡ next number ⌝ }
+{
+    (number % 16 + 1) % 16
 }
 
 // 4/X with parity.

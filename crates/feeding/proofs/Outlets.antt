@@ -14,7 +14,7 @@ use Rattle.sending.specs.declared.Bytes.{Bytes}
 use Rattle.sending.specs.declared.Sent.{Sent}
 use Rattle.sending.specs.Sending.{bytesOf, partOf, gets}
 use Rattle.feeding.specs.declared.Outlet.{Outlet}
-use Rattle.feeding.specs.Feeding.{outlet, sharesOf, appended, gathered}
+use Rattle.feeding.specs.Feeding.{outlet, contents, sharesOf, appended, gathered}
 
 -- no more are taken than there are
 pub taken-most : (n : ℕ) (vs : List ℕ) → length (take n vs) ≤ length vs
@@ -43,6 +43,10 @@ copied o b k C five least e =
     ap₂ (λ (x : List ℕ) (y : ℕ). record { codes = x; count = o .count + y })
     (e ∙ ap₂ (λ (x : List ℕ) (j : ℕ). take (o .count) (o .codes) ++ x ++ drop (o .count + j) (o .codes))
     (sym (as-many (b .codes) (b .count) k 5 five least)) (sym n)) (sym n)
+
+-- an outlet holds what was put into it
+pub held : (vs : List ℕ) → contents (outlet vs) ≡ vs
+held vs = take-append-seam vs (replicate (75 - length vs) 0)
 
 -- ---- bytes behind what is held, and 0 past them
 

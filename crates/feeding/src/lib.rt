@@ -5,10 +5,9 @@
 // seventy-five places always suffice for what a module gets. specs/Feeding says what that is; proofs/Suffices shows
 // that the places suffice.
 ghost use mathlib.Core.Path.{_≡_};
-ghost use mathlib.Core.List.{[], _++_};
-ghost use Prim.Native.Nat.{_+_, _≤_, _<_};
-ghost use lib.ListN.{length, take};
-ghost use Rattle.sending.specs.Sending.{bytesOf, gets};
+ghost use Prim.Native.Nat.{_≤_, _<_};
+ghost use lib.ListN.{take};
+ghost use Rattle.sending.specs.Sending.{gets};
 ghost use Rattle.feeding.specs.Feeding.{appended, sharesOf, gathered, nobody, fed, Enough};
 use links::Links;
 use sending::Bytes;

@@ -1,5 +1,3 @@
-pub mod Onwards
-pub mod Rooms
 pub mod SoFar
 pub mod Single
 pub mod Numbered

@@ -12,8 +12,9 @@ use Rattle.board.specs.Calls.{atLine}
 use Rattle.board.specs.Runs.{run, outTo, request, handedTo, requests}
 use Rattle.pieces.specs.declared.Answer.{Answer}
 use Rattle.pieces.specs.declared.Answer.the-variants.{Taken, NoRoom, Broken}
-use Rattle.pieces.specs.declared.Room.{Room}
-use Rattle.pieces.specs.Pieces.{told, singly, handed, asked, yields, within, passage, refused, linesOf, isTaken}
+use Rattle.front.specs.declared.Room.{Room}
+use Rattle.front.specs.Fitting.{within}
+use Rattle.pieces.specs.Pieces.{told, singly, handed, asked, yields, passage, refused, linesOf, isTaken}
 use Rattle.pieces.specs.Pieces.{linesTold}
 
 answerBy : Bool → Bool → Answer

@@ -18,9 +18,11 @@ use Rattle.board.specs.Boards.{inRange}
 use Rattle.board.specs.Runs.{run, heardIn, callsIn, Outside, InBoard}
 use Rattle.board.proofs.Parts.{apart}
 use Rattle.pieces.specs.declared.Answer.the-variants.{Taken, NoRoom, Broken}
-use Rattle.pieces.specs.declared.Room.{Room}
-use Rattle.pieces.specs.Pieces.{singly, handed, asked, yields, within, passage, refused, linesOf, isTaken}
-use Rattle.pieces.specs.Hearing.{bytes, calls, toEach, asks, needed, frontOf, heardWhole, played}
+use Rattle.front.specs.declared.Room.{Room}
+use Rattle.front.specs.Hearing.{bytes, calls, toEach, asks}
+use Rattle.front.specs.Fitting.{within, needed}
+use Rattle.pieces.specs.Pieces.{singly, handed, asked, yields, passage, refused, linesOf, isTaken}
+use Rattle.pieces.specs.Playing.{frontOf, heardWhole, played}
 
 heard-singly : (xs : List ℕ) → heardIn (singly xs) ≡ bytes xs
 heard-singly [] = refl

@@ -1,9 +1,9 @@
 -- How far a piece is played, and what one byte more brings to the outputs and the screen. Assumes nothing.
 use mathlib.Core.Path.{_≡_, sym, ap, ap₂, _∙_}
 use mathlib.Core.List.{List, _++_}
-use Prim.Native.Nat.{ℕ, _+_, _-_, _≤_, _<_}
+use Prim.Native.Nat.{ℕ, _+_, _≤_, _<_}
 use native.Mathlib.Omega.{arith}
-use lib.ListN.{length, take, drop, getD, replicate, length-append, length-drop}
+use lib.ListN.{length, take, drop, getD, length-append, length-drop}
 use lib.Seq.{paste, take-append-seam, drop-append-add, drop-drop}
 use Rattle.wiring.specs.declared.Module.{Module}
 use Rattle.wiring.specs.declared.Module.the-variants.{Screen, Keyboard, Modem, Socket}
@@ -12,19 +12,20 @@ use Rattle.receiver.specs.Runs.{sentBy}
 use Rattle.receiver.proofs.Asked.{asked-counted}
 use Rattle.feeding.specs.declared.Outlet.{Outlet}
 use Rattle.feeding.specs.Feeding.{fromLine, outlet, contents, fed}
+use Rattle.feeding.proofs.Outlets.{held}
 use Rattle.feeding.proofs.Suffices.{small-got}
 use Rattle.page.specs.declared.Screen.{Screen as Page}
 use Rattle.page.specs.Ranges.{InScreen}
 use Rattle.screen.specs.declared.Ran.{Ran}
 use Rattle.screen.specs.Calls.{ran}
 use Rattle.screen.proofs.Given.{ran-none, run-parts}
-use Rattle.pieces.specs.declared.front.Front.{Front}
-use Rattle.pieces.specs.declared.front.Heard.{Heard}
-use Rattle.pieces.specs.declared.Room.{Room}
-use Rattle.pieces.specs.Pieces.{roomIn}
-use Rattle.pieces.specs.Hearing.{heardBy, behind, calls, toEach, asks, needed, needsOf, more}
-use Rattle.pieces.proofs.Onwards.{brings, requests, behind-one, each-one, asks-one}
-use Rattle.pieces.proofs.Rooms.{Fits, beginning, one-more}
+use Rattle.front.specs.declared.Front.{Front}
+use Rattle.front.specs.declared.Heard.{Heard}
+use Rattle.front.specs.declared.Room.{Room}
+use Rattle.front.specs.Hearing.{heardBy, behind, calls, toEach, asks}
+use Rattle.front.specs.Fitting.{roomIn, needed, needsOf, more}
+use Rattle.front.proofs.Onwards.{brings, requests, behind-one, each-one, asks-one}
+use Rattle.front.proofs.Rooms.{Fits, beginning, one-more}
 
 -- bytes at the beginning of an output
 abbrev pub begins : List ℕ → List ℕ → List ℕ
@@ -58,9 +59,6 @@ further vs codes out n e =
     ∙ ap (λ (j : ℕ). drop j out) (ap (λ (j : ℕ). length vs + j) (sym e) ∙ sym (length-append vs ws)))
 
 -- ---- one byte
-
-held : (vs : List ℕ) → contents (outlet vs) ≡ vs
-held vs = take-append-seam vs (replicate (75 - length vs) 0)
 
 -- what one byte brings is written behind what is there
 pub written : (m : Module) (f : Front) (xs : List ℕ) (i : ℕ) → i < length xs → (out : List ℕ)

@@ -3,16 +3,16 @@
 use mathlib.Core.Bool.{Bool, cond, _&&_, not, false}
 use mathlib.Core.List.{List, [], _∷_, _++_}
 use Prim.Native.Nat.{ℕ}
-use lib.Dec.{leb}
 use lib.ListN.{length, drop}
 use Rattle.numbers.specs.Numbers.{Conditions, numberOf, Told}
 use Rattle.wiring.specs.declared.Module.{Module}
 use Rattle.wiring.specs.declared.Module.the-variants.{Keyboard, Modem, Socket}
 use Rattle.receiver.specs.Runs.{byte}
+use Rattle.front.specs.declared.Room.{Room}
+use Rattle.front.specs.Fitting.{roomIn, within}
 use Rattle.board.specs.declared.Board.{Board}
 use Rattle.board.specs.Boards.{inRange}
 use Rattle.board.specs.Runs.{Event, front, run, handedTo, requests}
-use Rattle.pieces.specs.declared.Room.{Room}
 use Rattle.pieces.specs.declared.Answer.{Answer}
 use Rattle.pieces.specs.declared.Answer.the-variants.{Taken, NoRoom, Broken}
 use Rattle.pieces.specs.declared.Passage.{Passage}
@@ -38,15 +38,6 @@ abbrev pub asked : Board → List ℕ → List ℕ
 asked b xs = requests b (singly xs)
 
 -- ---- room
-
-abbrev pub roomIn : List ℕ → List ℕ → List ℕ → List ℕ → Room
-roomIn k m s q = record { keyboard = length k; modem = length m; socket = length s; requests = length q }
-
--- so much is needed, and so much is there
-abbrev pub within : Room → Room → Bool
-within n r =
-    leb (n .keyboard) (r .keyboard)
-    && (leb (n .modem) (r .modem) && (leb (n .socket) (r .socket) && leb (n .requests) (r .requests)))
 
 -- what a piece needs
 abbrev pub yields : Board → List ℕ → Room

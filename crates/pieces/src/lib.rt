@@ -2,20 +2,19 @@
 //
 // `lines` does what single calls of `line` would do one after the other, with the ranges tested once. Where an output
 // lacks room for what the whole piece yields, nothing is taken and no output is touched: so the piece is heard twice,
-// first to see what room it takes (fitting.rt), and then for good (playing.rt). specs/Pieces says what `lines`
+// first to see what room it takes (crate `front`), and then for good (playing.rt). specs/Pieces says what `lines`
 // promises; proofs/ shows that hearing byte by byte comes to that.
 ghost use mathlib.Core.Path.{_≡_};
 ghost use Rattle.wiring.specs.declared.Module.the-variants.{Keyboard, Modem, Socket};
-ghost use Rattle.pieces.specs.Pieces.{refused, roomIn, linesOf, isTaken, handed, asked, leftIn};
+ghost use Rattle.front.specs.Fitting.{roomIn};
+ghost use Rattle.pieces.specs.Pieces.{refused, linesOf, isTaken, handed, asked, leftIn};
 
-mod fitting;
-mod front;
 mod outputs;
 mod playing;
 
 use board::Board;
-use fitting::fits;
 use front::Front;
+use front::Room;
 use playing::play;
 
 // What a call answers: the paper's 0, 4 and 5.
@@ -23,14 +22,6 @@ pub enum Answer {
     Taken,
     NoRoom,
     Broken,
-}
-
-// Bytes for each output: those that there is room for, or those written.
-pub struct Room {
-    pub keyboard: usize,
-    pub modem: usize,
-    pub socket: usize,
-    pub requests: usize,
 }
 
 // What a call hands back, with the bytes written to each output.
@@ -86,7 +77,7 @@ pub fn lines(
         let receiver = board.receiver;
         let links = board.links;
         let front = Front { receiver, links };
-        if fits(front, piece, room) {
+        if front::fits(front, piece, room) {
             return play(board, piece, keyboard, modem, socket, requests);
         }
         return refuse(board, Answer::NoRoom);

@@ -4,10 +4,10 @@ ghost use Prim.Native.Nat.{_+_, _≤_};
 ghost use lib.ListN.{length};
 ghost use lib.Seq.{paste};
 ghost use Rattle.feeding.specs.Feeding.{Enough};
-ghost use Rattle.pieces.specs.Hearing.{needsOf, more};
-use crate::Room;
-use crate::front::Heard;
+ghost use Rattle.front.specs.Fitting.{needsOf, more};
 use feeding::Outlet;
+use front::Heard;
+use front::Room;
 
 // What a module gets, at a place of its output.
 fn put(out: &mut [u8], at: usize, from: Outlet)

@@ -6,16 +6,17 @@ ghost use Prim.Native.Nat.{_≤_};
 ghost use Rattle.feeding.specs.Feeding.{contents};
 ghost use Rattle.page.specs.Ranges.{InScreen};
 ghost use Rattle.screen.specs.Calls.{ran};
-ghost use Rattle.pieces.specs.Pieces.{within, roomIn, leftIn};
-ghost use Rattle.pieces.specs.Hearing.{frontOf, needed, toEach, asks, played};
+ghost use Rattle.front.specs.Hearing.{toEach, asks};
+ghost use Rattle.front.specs.Fitting.{within, roomIn, needed};
+ghost use Rattle.pieces.specs.Pieces.{leftIn};
+ghost use Rattle.pieces.specs.Playing.{frontOf, played};
 use crate::Answer;
 use crate::Passage;
-use crate::Room;
-use crate::front::Front;
-use crate::front::hear;
 use crate::outputs::hand;
 use board::Board;
 use feeding::Outlet;
+use front::Front;
+use front::Room;
 use page::Screen;
 
 // What is sent to the screen, written there; nothing leaves it as it is, and uncopied.
@@ -61,7 +62,7 @@ pub(crate) fn play(
     };
     let mut i: usize = 0;
     while i < piece.len() {
-        let heard = hear(front, piece[i]);
+        let heard = front::hear(front, piece[i]);
         front = heard.front;
         used = hand(heard, used, keyboard, modem, socket, requests);
         let shares = heard.shares;

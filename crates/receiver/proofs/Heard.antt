@@ -17,6 +17,7 @@ use Rattle.maker.proofs.Blocks.{made-valid, values-back}
 use Rattle.reader.specs.Judging.{mendable}
 use Rattle.reader.proofs.Verdicts.{near-only, asked-when-none, twice-refused}
 use Rattle.codes.specs.Codes.{syn, four, request, Nowhere}
+use Rattle.codes.proofs.Numbered.{counted}
 use Rattle.codes.proofs.Seen.{seen-syns, nowhere-syn}
 use Rattle.receiver.specs.declared.Phase.the-variants.{Collecting, Waiting}
 use Rattle.receiver.specs.declared.Receiver.{Receiver}
@@ -28,7 +29,7 @@ use Rattle.receiver.specs.Runs.{bytesOf}
 use Rattle.receiver.specs.Page.{whileWaiting, awaiting}
 use Rattle.receiver.specs.Line.{Arrives, nothingMore}
 use Rattle.receiver.specs.Line.{blockThen}
-use Rattle.receiver.proofs.Kept.{emptied-in, runs-keep, run-append, sent-append}
+use Rattle.receiver.proofs.Kept.{emptied-in, runs-keep, run-append, sent-append, asked-append}
 use Rattle.receiver.proofs.Followed.{At}
 use Rattle.receiver.proofs.Waits.{resumes, waits-on}
 use Rattle.receiver.proofs.Seventeen.{block-passes, block-asked}
@@ -46,12 +47,6 @@ passed-append [] ps = refl
 passed-append (o ∷ os) ps =
     ap (λ (l : List ℕ). o .passed ++ l) (passed-append os ps)
     ∙ sym (append-assoc (o .passed) (allPassed os) (allPassed ps))
-
-asked-append : (os ps : List Sent) → allAsked (os ++ ps) ≡ allAsked os ++ allAsked ps
-asked-append [] ps = refl
-asked-append (o ∷ os) ps =
-    ap (λ (l : List ℕ). o .asked ++ l) (asked-append os ps)
-    ∙ sym (append-assoc (o .asked) (allAsked os) (allAsked ps))
 
 -- bytes behind bytes
 pub behind : {r q p : Receiver} (bs cs : List ℕ) {vs us qs ps : List ℕ} → Hears r bs vs qs q → Hears q cs us ps p
@@ -99,8 +94,8 @@ blocks-heard [] x c h nothingMore =
 blocks-heard (us ∷ uss) x c h (blockThen {B = B} {bs = bs} n a) =
     let i = behind B bs (block-heard us x (c .0) (c .1) h n)
     (blocks-heard uss ((x + 1) % 16) (c .2) (mod-lt (x + 1) (zero-lt-suc 15)) a) in
-    let e : ((x + 1) % 16 + length uss) % 16 ≡ (x + length (us ∷ uss)) % 16 = omega arith in
-    subst (λ (m : ℕ). Hears (emptied x Collecting) (B ++ bs) (values (us ∷ uss)) [] (emptied m Collecting)) e i
+    subst (λ (m : ℕ). Hears (emptied x Collecting) (B ++ bs) (values (us ∷ uss)) [] (emptied m Collecting))
+    (counted x (length uss)) i
 
 -- ---- a block hit twice
 

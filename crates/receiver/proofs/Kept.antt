@@ -1,7 +1,7 @@
 -- Every event keeps a state in range, and a run is the run over its parts. Assumes nothing.
 use mathlib.Core.Path.{_≡_, refl, sym, ap, _∙_, subst⁻¹}
 use mathlib.Core.Bool.{Bool, true, false, cond}
-use mathlib.Core.List.{List, [], _∷_, _++_}
+use mathlib.Core.List.{List, [], _∷_, _++_, append-assoc}
 use Prim.Native.Nat.{ℕ, _+_, _%_, _<_}
 use native.Mathlib.Nat.{mod-lt, zero-lt-suc}
 use native.Mathlib.Omega.{arith}
@@ -18,7 +18,7 @@ use Rattle.receiver.specs.declared.Stepped.{Stepped}
 use Rattle.receiver.specs.States.{seenInRange, inRange, InRange, emptied, newReceiver}
 use Rattle.receiver.specs.Calls.{silent, refused, holding, waiting, listening, switchedOn, switchedOff}
 use Rattle.receiver.specs.Calls.{againBy, askedAgain}
-use Rattle.receiver.specs.Runs.{Event, byte, on, off, ask, obey, run, Sent, sentBy, sent}
+use Rattle.receiver.specs.Runs.{Event, byte, on, off, ask, obey, run, Sent, sentBy, sent, allAsked}
 use Rattle.receiver.proofs.Ranges.{in-range, number-in, count-in}
 use Rattle.receiver.proofs.Cases.{again-in}
 use Rattle.receiver.proofs.Shape.{Shape, plain, more, took, none, listens, shape}
@@ -99,3 +99,9 @@ run-append (e ∷ es) fs r = run-append es fs (obey e r .next)
 pub sent-append : (es fs : List Event) (r : Receiver) → sent r (es ++ fs) ≡ sent r es ++ sent (run r es) fs
 sent-append [] fs r = refl
 sent-append (e ∷ es) fs r = ap (λ (os : List Sent). sentBy (obey e r) ∷ os) (sent-append es fs (obey e r .next))
+
+pub asked-append : (os ps : List Sent) → allAsked (os ++ ps) ≡ allAsked os ++ allAsked ps
+asked-append [] ps = refl
+asked-append (o ∷ os) ps =
+    ap (λ (l : List ℕ). o .asked ++ l) (asked-append os ps)
+    ∙ sym (append-assoc (o .asked) (allAsked os) (allAsked ps))

@@ -1,7 +1,7 @@
 -- What each call does to a receiver, and all that goes out (01, "The receiver"). Assumes nothing.
 use mathlib.Core.Bool.{Bool, true, false, cond}
 use mathlib.Core.List.{List, [], _∷_, _++_}
-use Prim.Native.Nat.{ℕ, _+_, _-_, _%_}
+use Prim.Native.Nat.{ℕ, _+_, _-_}
 use lib.Dec.{ltb}
 use lib.ListN.{length, set, replicate}
 use Rattle.maker.specs.Making.{valuesOf}
@@ -10,7 +10,7 @@ use Rattle.reader.specs.declared.Verdict.the-variants.{Clean, Mended, Repeat, W
 use Rattle.reader.specs.Judging.{verdict, left}
 use Rattle.codes.specs.declared.Listened.{Listened}
 use Rattle.codes.specs.declared.Listened.the-variants.{Seen, Resumed}
-use Rattle.codes.specs.Codes.{plainly, request, listened}
+use Rattle.codes.specs.Codes.{plainly, next, request, listened}
 use Rattle.receiver.specs.declared.Phase.{Phase}
 use Rattle.receiver.specs.declared.Phase.the-variants.{Off, Collecting, Waiting}
 use Rattle.receiver.specs.declared.Receiver.{Receiver}
@@ -68,7 +68,7 @@ whole r b = set (r .held) 16 b
 -- "Clean or mended: its fifteen values are passed on without parity, the number rises by one (15 becomes 0) and
 -- nothing is held"
 abbrev pub accepted : ℕ → List ℕ → Verdict → Stepped
-accepted x vs v = giving 0 (emptied ((x + 1) % 16) Collecting) vs [] (Block v)
+accepted x vs v = giving 0 (emptied (next x) Collecting) vs [] (Block v)
 
 -- "Repeat: nothing is passed on; the request .. goes to the modem .., X being the unchanged number; phase waiting,
 -- nothing held or seen"

@@ -1,6 +1,5 @@
 // What a byte does while the receiver is on.
 ghost use mathlib.Core.Path.{_≡_};
-ghost use Prim.Native.Nat.{_<_};
 ghost use Rattle.receiver.specs.Calls.{accepts as acceptsAs, judgedHeld, collecting, listening};
 use crate::Judged;
 use crate::Phase;
@@ -27,13 +26,12 @@ fn accepts(verdict: Verdict) -> bool
 // The seventeenth byte: the block is judged where it lies in a copy of what is held. Accepted, its values pass, and the
 // next one is awaited; refused, it is asked for, and awaited.
 fn judge_held(r: Receiver, byte: u8) -> Stepped
-    requires { ⌜ r .number < 16 ⌝ }
     ensures { λ s. ⌜ s ≡ judgedHeld r byte ⌝ }
 {
     let mut arrived = r.held;
     arrived[16] = byte;
     let verdict = reader::mend(&mut arrived[..]);
-    let after = (r.number + 1) % 16;
+    let after = codes::next_number(r.number);
     if accepts(verdict) {
         return Stepped {
             next: emptied(after, Phase::Collecting),
@@ -50,7 +48,6 @@ fn judge_held(r: Receiver, byte: u8) -> Stepped
 
 // Collecting: the byte is held, or it is the seventeenth.
 pub(crate) fn collect(r: Receiver, byte: u8) -> Stepped
-    requires { ⌜ r .number < 16 ⌝ }
     ensures { λ s. ⌜ s ≡ collecting r byte ⌝ }
 {
     let count = r.count;

@@ -6,13 +6,14 @@ use Prim.Native.Nat.{ℕ}
 use borrow.Author.Needs.{needs}
 use Rattle.laws.proofs.Lists.{length-mapped}
 use Rattle.wiring.specs.declared.Module.the-variants.{Keyboard, Modem, Socket}
+use Rattle.front.specs.Fitting.{roomIn, within, needed}
 use Rattle.board.specs.declared.Board.{Board}
 use Rattle.board.specs.Boards.{inRange}
 use Rattle.board.specs.Runs.{InBoard}
 use Rattle.board.proofs.Ranges.{passed-in}
-use Rattle.pieces.specs.declared.Room.{Room}
-use Rattle.pieces.specs.Pieces.{handed, asked, roomIn, within, isTaken, leftIn}
-use Rattle.pieces.specs.Hearing.{needed, frontOf}
+use Rattle.front.specs.declared.Room.{Room}
+use Rattle.pieces.specs.Pieces.{handed, asked, isTaken, leftIn}
+use Rattle.pieces.specs.Playing.{frontOf}
 use Rattle.pieces.proofs.Single.{handed-is, asked-is, taken-is, short-is, is-taken, broken-is}
 use Rattle.pieces.proofs.lines.Statement.{statement}
 use Rattle.pieces.proofs.lines.Tie as tie

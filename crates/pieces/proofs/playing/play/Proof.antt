@@ -10,11 +10,12 @@ use borrow.Author.Needs.{needs}
 use Rattle.wiring.specs.declared.Module.the-variants.{Keyboard, Modem, Socket}
 use Rattle.feeding.specs.Feeding.{got}
 use Rattle.screen.proofs.Given.{ran-none}
-use Rattle.pieces.specs.declared.front.Front.{Front}
-use Rattle.pieces.specs.declared.Room.{Room}
-use Rattle.pieces.specs.Pieces.{roomIn}
-use Rattle.pieces.specs.Hearing.{heardBy, calls, behind, frontOf, toEach, asks, needed, played}
-use Rattle.pieces.proofs.Rooms.{Fits, tested}
+use Rattle.front.specs.declared.Front.{Front}
+use Rattle.front.specs.declared.Room.{Room}
+use Rattle.front.specs.Hearing.{heardBy, calls, behind, toEach, asks}
+use Rattle.front.specs.Fitting.{roomIn, needed}
+use Rattle.pieces.specs.Playing.{frontOf, played}
+use Rattle.front.proofs.Rooms.{Fits, tested}
 use Rattle.pieces.proofs.SoFar.{begins, Played, next-front, next-used, next-keyboard}
 use Rattle.pieces.proofs.SoFar.{next-modem, next-socket, next-asked}
 use Rattle.pieces.proofs.SoFar.{long, next-screen, same-screen, next-fits}

@@ -7,7 +7,6 @@ use Rattle.receiver.specs.declared.Phase.the-variants.{Off, Collecting, 
 use Rattle.receiver.specs.declared.Receiver.{Receiver}
 use Rattle.receiver.specs.States.{inRange}
 use Rattle.receiver.specs.Calls.{silent, listening}
-use Rattle.receiver.proofs.Ranges.{number-in}
 use Rattle.receiver.proofs.Cases.{step-in}
 use Rattle.receiver.proofs.Receiver.step.Statement.{statement}
 use Rattle.receiver.proofs.Receiver.step.Tie as tie
@@ -28,9 +27,7 @@ enum-told-2 : tie.Need-enum-told-2
 enum-told-2 c = search needs
 
 collect-requires : tie.Need-collect-requires
-collect-requires c κs =
-    let s = c .before .before .before in
-    number-in (was s) (sym (s .in-range .ensures) ∙ c .before .before .if1 .taken)
+collect-requires c κs = search needs
 
 enum-known-phase : tie.Need-enum-known-phase
 enum-known-phase c = search needs

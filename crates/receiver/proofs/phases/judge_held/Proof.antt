@@ -1,13 +1,13 @@
 -- `receiver::phases::judge_held` meets its contract: the verdict is the one judged, and an array of fifteen is full.
 -- Assumes nothing.
 use mathlib.Core.Path.{ap, sym, _∙_}
-use mathlib.Core.List.{List, []}
+use mathlib.Core.List.{List}
 use Prim.Native.Nat.{ℕ}
 use borrow.Author.Needs.{needs}
-use Rattle.codes.specs.Codes.{request}
+use Rattle.receiver.specs.declared.Phase.the-variants.{Collecting}
 use Rattle.receiver.specs.declared.Receiver.{Receiver}
-use Rattle.receiver.specs.declared.Judged.the-variants.{Block}
-use Rattle.receiver.specs.Calls.{giving, accepted}
+use Rattle.receiver.specs.States.{emptied}
+use Rattle.receiver.specs.Calls.{accepted}
 use Rattle.receiver.proofs.Cases.{accepting, as-judged}
 use Rattle.receiver.proofs.phases.judge_held.Statement.{statement}
 use Rattle.receiver.proofs.phases.judge_held.Tie as tie
@@ -27,8 +27,8 @@ slice-aggregate-mend c = search needs
 mend-requires : tie.Need-mend-requires
 mend-requires c κs = search needs
 
-add-after : tie.Need-add-after
-add-after c = search needs
+next-number-requires : tie.Need-next-number-requires
+next-number-requires c κs = search needs
 
 accepts-requires : tie.Need-accepts-requires
 accepts-requires c κs = search needs
@@ -43,7 +43,8 @@ returns : tie.Need-returns
 returns c =
     let t = c .before .before in
     let m = t .before .before .before .before in
-    accepting (was m .number) (c .values .result) (m .mend .result) (c .before .emptied .ensures) (search needs)
+    let n = ap (λ (x : ℕ). emptied x Collecting) (t .before .before .next-number .ensures) in
+    accepting (was m .number) (c .values .result) (m .mend .result) (c .before .emptied .ensures ∙ n) (search needs)
     ∙ ap (λ (vs : List ℕ). accepted (was m .number) vs (m .mend .result)) (c .values .ensures)
     ∙ as-judged (was m) (last m) (m .mend .result) (m .mend .last .0) (m .mend .ensures)
     (sym (t .before .accepts .ensures) ∙ t .if1 .taken)
@@ -58,11 +59,9 @@ returns-2 : tie.Need-returns-2
 returns-2 c =
     let t = c .before .before in
     let m = t .before .before .before .before in
-    let v = Block (m .mend .result) in
-    c .ask .ensures
-    ∙ ap (λ (q : Receiver). giving 0 q [] (request (q .number)) v) (c .before .emptied2 .ensures)
-    ∙ as-judged (was m) (last m) (m .mend .result) (m .mend .last .0) (m .mend .ensures)
-    (sym (t .before .accepts .ensures) ∙ t .if1 .left)
+    simp (c .ask .ensures, c .before .emptied2 .ensures, t .before .before .next-number .ensures)
+    (as-judged (was m) (last m) (m .mend .result) (m .mend .last .0) (m .mend .ensures)
+    (sym (t .before .accepts .ensures) ∙ t .if1 .left))
 
 pub judge-held-spec : {M : Type 1} → statement M
 judge-held-spec =
@@ -71,7 +70,7 @@ judge-held-spec =
     array-write-arrived
     slice-aggregate-mend
     mend-requires
-    add-after
+    next-number-requires
     accepts-requires
     emptied-requires
     values-requires

@@ -9,14 +9,13 @@ use Rattle.wiring.specs.declared.Module.{Module}
 use Rattle.receiver.specs.declared.Receiver.{Receiver}
 use Rattle.receiver.specs.Calls.{stepped}
 use Rattle.receiver.specs.Runs.{Event, byte, run as receiverRun, sentBy, sent, allAsked}
-use Rattle.receiver.proofs.Kept.{run-append as heard-append, sent-append}
+use Rattle.receiver.proofs.Kept.{run-append as heard-append, sent-append, asked-append}
 use Rattle.links.specs.declared.Links.{Links}
 use Rattle.links.specs.Runs.{Call, run as linksRun}
 use Rattle.feeding.specs.Feeding.{fromLine, got, fed}
 use Rattle.feeding.proofs.Suffices.{run-append, got-append}
-use Rattle.board.proofs.Parts.{asked-append}
-use Rattle.pieces.specs.declared.front.Front.{Front}
-use Rattle.pieces.specs.Hearing.{heardBy, bytes, calls, behind, toEach, asks}
+use Rattle.front.specs.declared.Front.{Front}
+use Rattle.front.specs.Hearing.{heardBy, bytes, calls, behind, toEach, asks}
 
 -- ---- some bytes, then others
 

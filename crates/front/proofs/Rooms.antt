@@ -13,13 +13,13 @@ use Rattle.receiver.proofs.Asked.{asked-counted}
 use Rattle.feeding.specs.Feeding.{fed}
 use Rattle.wiring.specs.declared.Module.{Module}
 use Rattle.wiring.specs.declared.Module.the-variants.{Keyboard, Modem, Socket}
-use Rattle.pieces.specs.declared.front.Front.{Front}
-use Rattle.pieces.specs.declared.Room.{Room}
-use Rattle.pieces.specs.declared.fitting.Left.{Left}
-use Rattle.pieces.specs.declared.fitting.Left.the-variants.{Enough, Short}
-use Rattle.pieces.specs.Pieces.{within}
-use Rattle.pieces.specs.Hearing.{heardBy, behind, toEach, asks, needed, needsOf, more, less, leftOver}
-use Rattle.pieces.proofs.Onwards.{each-append, asks-append, brings, requests, each-one, asks-one}
+use Rattle.front.specs.declared.Front.{Front}
+use Rattle.front.specs.declared.Room.{Room}
+use Rattle.front.specs.declared.fitting.Left.{Left}
+use Rattle.front.specs.declared.fitting.Left.the-variants.{Enough, Short}
+use Rattle.front.specs.Hearing.{heardBy, behind, toEach, asks}
+use Rattle.front.specs.Fitting.{within, needed, needsOf, more, less, leftOver}
+use Rattle.front.proofs.Onwards.{each-append, asks-append, brings, requests, each-one, asks-one}
 
 pub record Fits (n r : Room) : Type 0 where
   pub keyboard : n .keyboard ≤ r .keyboard

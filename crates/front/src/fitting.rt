@@ -1,11 +1,10 @@
 // Whether there is room for what a piece yields: it is heard once for that alone.
 ghost use mathlib.Core.Path.{_≡_};
-ghost use Rattle.pieces.specs.Pieces.{within};
-ghost use Rattle.pieces.specs.Hearing.{needsOf, leftOver, needed};
+ghost use Rattle.front.specs.Fitting.{within, needed, needsOf, leftOver};
+use crate::Front;
+use crate::Heard;
 use crate::Room;
-use crate::front::Front;
-use crate::front::Heard;
-use crate::front::hear;
+use crate::hear;
 
 // What is left of the room behind a byte.
 pub(crate) enum Left {
@@ -49,7 +48,8 @@ fn spend(room: Room, need: Room) -> Left
     Left::Short
 }
 
-pub(crate) fn fits(start: Front, piece: &[u8], room: Room) -> bool
+// Whether there is room for all that the piece yields.
+pub fn fits(start: Front, piece: &[u8], room: Room) -> bool
     ensures { λ r. ⌜ r ≡ within (needed start (now (piece .entry))) «room» ⌝ }
 {
     let mut front = start;

@@ -1,9 +1,9 @@
--- `pieces::front::hear` meets its contract. Assumes nothing.
+-- `front::hear` meets its contract. Assumes nothing.
 use Rattle.receiver.proofs.Asked.{asked-counted}
-use Rattle.pieces.specs.Hearing.{heardBy}
+use Rattle.front.specs.Hearing.{heardBy}
 use borrow.Author.Needs.{needs}
-use Rattle.pieces.proofs.front.hear.Statement.{statement}
-use Rattle.pieces.proofs.front.hear.Tie as tie
+use Rattle.front.proofs.hear.Statement.{statement}
+use Rattle.front.proofs.hear.Tie as tie
 
 step-requires : tie.Need-step-requires
 step-requires c κs = search needs

@@ -1,26 +1,43 @@
-// What hears the line: the receiver, and the links behind it.
+// What hears the line: the receiver, and the links behind it (01, "What the board does").
+//
+// A byte goes through the receiver, and each value that this passes on is handed to the links as the modem's. A piece of
+// bytes takes room in four outputs, and can be heard for that alone. specs/Hearing says what bytes come to,
+// specs/Fitting what room that takes; proofs/Onwards shows what one byte more brings, proofs/Rooms when there is room.
 ghost use mathlib.Core.Path.{_≡_};
 ghost use Prim.Native.Nat.{_≤_};
 ghost use Rattle.feeding.specs.Feeding.{Enough};
-ghost use Rattle.pieces.specs.Hearing.{heardBy};
+ghost use Rattle.front.specs.Hearing.{heardBy};
+
+mod fitting;
+
 use feeding::Shares;
+pub use fitting::fits;
 use links::Links;
 use receiver::Receiver;
 
-pub(crate) struct Front {
+pub struct Front {
     pub receiver: Receiver,
     pub links: Links,
 }
 
 // What comes of one byte.
-pub(crate) struct Heard {
+pub struct Heard {
     pub front: Front,
     pub shares: Shares,
     pub request: [u8; 2],
     pub asked: usize,
 }
 
-pub(crate) fn hear(front: Front, byte: u8) -> Heard
+// Bytes for each output: those that there is room for, or those written.
+pub struct Room {
+    pub keyboard: usize,
+    pub modem: usize,
+    pub socket: usize,
+    pub requests: usize,
+}
+
+// One byte from the line.
+pub fn hear(front: Front, byte: u8) -> Heard
     ensures { λ r. ⌜ (r ≡ heardBy «front» byte) × Enough (r .shares) × (r .asked ≤ 2) ⌝ }
 {
     let receiver = front.receiver;

@@ -1,4 +1,4 @@
--- `pieces::fitting::fits` meets its contract. Assumes nothing.
+-- `front::fitting::fits` meets its contract. Assumes nothing.
 use mathlib.Core.Path.{_≡_, refl, sym, ap, _∙_, subst, subst⁻¹}
 use mathlib.Core.List.{List}
 use Prim.Native.Nat.{ℕ, _-_, _≤_, _<_, zero-le}
@@ -7,14 +7,15 @@ use lib.ListN.{length, take, getD}
 use borrow.Author.Needs.{needs}
 use lib.Seq.{take-all}
 use Rattle.feeding.specs.Feeding.{got}
-use Rattle.pieces.specs.declared.front.Front.{Front}
-use Rattle.pieces.specs.declared.front.Heard.{Heard}
-use Rattle.pieces.specs.declared.Room.{Room}
-use Rattle.pieces.specs.Hearing.{heardBy, calls, behind, needed, needsOf, more, leftOver}
-use Rattle.pieces.proofs.Onwards.{behind-one}
-use Rattle.pieces.proofs.Rooms.{tested, one-more, Spent, spent-on, lacking, short, enough, spent-whole}
-use Rattle.pieces.proofs.fitting.fits.Statement.{statement}
-use Rattle.pieces.proofs.fitting.fits.Tie as tie
+use Rattle.front.specs.declared.Front.{Front}
+use Rattle.front.specs.declared.Heard.{Heard}
+use Rattle.front.specs.declared.Room.{Room}
+use Rattle.front.specs.Hearing.{heardBy, calls, behind}
+use Rattle.front.specs.Fitting.{needed, needsOf, more, leftOver}
+use Rattle.front.proofs.Onwards.{behind-one}
+use Rattle.front.proofs.Rooms.{tested, one-more, Spent, spent-on, lacking, short, enough, spent-whole}
+use Rattle.front.proofs.fitting.fits.Statement.{statement}
+use Rattle.front.proofs.fitting.fits.Tie as tie
 
 abbrev Inv-loop : tie.InvT-loop
 Inv-loop piece front₀ left₀ i₀ front left i =

@@ -1,8 +1,8 @@
--- `pieces::fitting::spend` meets its contract. Assumes nothing.
+-- `front::fitting::spend` meets its contract. Assumes nothing.
 use borrow.Author.Tests.{le-leb, lt-leb}
-use Rattle.pieces.specs.Hearing.{leftOver}
-use Rattle.pieces.proofs.fitting.spend.Statement.{statement}
-use Rattle.pieces.proofs.fitting.spend.Tie as tie
+use Rattle.front.specs.Fitting.{leftOver}
+use Rattle.front.proofs.fitting.spend.Statement.{statement}
+use Rattle.front.proofs.fitting.spend.Tie as tie
 
 returns : tie.Need-returns
 unfolding leftOver

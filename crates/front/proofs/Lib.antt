@@ -1,0 +1,2 @@
+pub mod Onwards
+pub mod Rooms

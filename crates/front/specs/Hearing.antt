@@ -1,0 +1,45 @@
+-- Line bytes heard by the receiver and the links behind it (01, "What the board does"). Assumes nothing.
+use mathlib.Core.List.{List, [], _∷_, _++_}
+use Prim.Native.Nat.{ℕ}
+use lib.ListN.{take}
+use Rattle.wiring.specs.declared.Module.{Module}
+use Rattle.receiver.specs.declared.Receiver.{Receiver}
+use Rattle.receiver.specs.Calls.{stepped}
+use Rattle.receiver.specs.Runs.{Event, byte, run as receiverRun, sentBy, sent, allAsked}
+use Rattle.links.specs.Runs.{Call, run as linksRun}
+use Rattle.feeding.specs.Feeding.{fromLine, got, fed}
+use Rattle.front.specs.declared.Front.{Front}
+use Rattle.front.specs.declared.Heard.{Heard}
+
+-- one byte
+unfoldable pub heardBy : Front → ℕ → Heard
+heardBy f x =
+    let s = stepped (f .receiver) x in
+    let g = fed (f .links) (take (s .passed) (s .values)) in
+    record {
+      front = record { receiver = s .next; links = g .links };
+      shares = g .shares;
+      request = s .request;
+      asked = s .asked;
+    }
+
+-- ---- many bytes
+
+abbrev pub bytes : List ℕ → List Event
+bytes [] = []
+bytes (x ∷ xs) = byte x ∷ bytes xs
+
+-- the calls of the links that come of them
+unfoldable pub calls : Receiver → List ℕ → List Call
+calls r [] = []
+calls r (x ∷ xs) = fromLine (sentBy (stepped r x) .passed) ++ calls (stepped r x .next) xs
+
+abbrev pub behind : Front → List ℕ → Front
+behind f xs =
+    record { receiver = receiverRun (f .receiver) (bytes xs); links = linksRun (f .links) (calls (f .receiver) xs) }
+
+abbrev pub toEach : Module → Front → List ℕ → List ℕ
+toEach m f xs = got m (f .links) (calls (f .receiver) xs)
+
+abbrev pub asks : Front → List ℕ → List ℕ
+asks f xs = allAsked (sent (f .receiver) (bytes xs))
