@@ -1,10 +1,8 @@
 -- Refusals: 5 before 2, the board handed back, and nothing handed out. Assumes nothing.
-use mathlib.Core.Path.{_≡_, refl, sym, ap, ap₂, _∙_}
-use mathlib.Core.Bool.{Bool, true, false, cond, not, _&&_}
-use mathlib.Core.List.{[], _∷_}
-use lib.Dec.{eqb}
+use mathlib.Core.Path.{_≡_, refl, sym, ap, _∙_}
+use mathlib.Core.Bool.{Bool, true, false, not, _&&_}
 use Rattle.laws.proofs.Computed.{and-left, and-right, fails, holds, is-true}
-use Rattle.numbers.specs.Numbers.{Conditions, numberOf, Told}
+use Rattle.numbers.specs.Numbers.{toldOf}
 use Rattle.receiver.specs.States.{inRange as receiverInRange}
 use Rattle.receiver.specs.Runs.{byte, on, off, ask}
 use Rattle.links.specs.declared.Ear.the-variants.{Socket as fromSocket}
@@ -77,19 +75,10 @@ taken-else-here toConnected b i t = call-taken connectedCall b i refl
 
 -- ---- the numbers come of the conditions
 
-conditions : Bool → Bool → Conditions
-conditions i t = record { wrongLength = false; brokenState = not i; tooLarge = t; noRoom = false; repeat = false }
-
-toldBy : Bool → Bool → Told
-toldBy i t =
-    record { number = numberOf (conditions i t); named = cond (eqb (numberOf (conditions i t)) 2) (0 ∷ []) [] }
-
 pub numbers : (e : Event) (b : Board) → told (obey e b .answer) ≡ callTold e b
-unfolding conditions toldBy
 numbers e b = go (inRange b) (tooLarge e) refl refl
   where
-    go : (i t : Bool) → inRange b ≡ i → tooLarge e ≡ t → told (obey e b .answer) ≡ callTold e b
-    go true true f g = ap (λ (o : Outcome). told (o .answer)) (large e b f g) ∙ sym (ap₂ toldBy f g)
-    go true false f g = ap told (taken-else-here e b f g) ∙ sym (ap₂ toldBy f g)
-    go false true f g = ap (λ (o : Outcome). told (o .answer)) (broken e b f) ∙ sym (ap₂ toldBy f g)
-    go false false f g = ap (λ (o : Outcome). told (o .answer)) (broken e b f) ∙ sym (ap₂ toldBy f g)
+    go : (i t : Bool) → inRange b ≡ i → tooLarge e ≡ t → told (obey e b .answer) ≡ toldOf (not i) t 0
+    go true true f g = ap (λ (o : Outcome). told (o .answer)) (large e b f g)
+    go true false f g = ap told (taken-else-here e b f g)
+    go false t f g = ap (λ (o : Outcome). told (o .answer)) (broken e b f)

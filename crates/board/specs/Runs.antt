@@ -1,12 +1,12 @@
 -- A run of a board: what happens to it, call by call, and what is handed out; and the runs of its parts alone. Assumes
 -- nothing.
 use mathlib.Core.Path.{_≡_}
-use mathlib.Core.Bool.{Bool, false, cond, not}
+use mathlib.Core.Bool.{Bool, false, not}
 use mathlib.Core.List.{List, [], _∷_, _++_}
 use Prim.Native.Nat.{ℕ}
-use lib.Dec.{ltb, eqb}
+use lib.Dec.{ltb}
 use lib.ListN.{take}
-use Rattle.numbers.specs.Numbers.{Conditions, numberOf, Told}
+use Rattle.numbers.specs.Numbers.{Told, toldOf}
 use Rattle.receiver.specs.declared.Receiver.{Receiver}
 use Rattle.receiver.specs.States.{InRange as ReceiverIn}
 use Rattle.receiver.specs.Runs.{Event as Heard, byte, on, off, ask, obey as receiverObey, sentBy}
@@ -133,20 +133,6 @@ tooLarge (socket v) = ltb 127 v
 tooLarge toLocal = false
 tooLarge toConnected = false
 
-abbrev pub callConditions : Event → Board → Conditions
-callConditions e b =
-    record {
-      wrongLength = false;
-      brokenState = not (inRange b);
-      tooLarge = tooLarge e;
-      noRoom = false;
-      repeat = false;
-    }
-
--- what is told of them: number 2 names the value's place
+-- "a state handed in lies outside the ranges"; a single value stands at place 0
 abbrev pub callTold : Event → Board → Told
-callTold e b =
-    record {
-      number = numberOf (callConditions e b);
-      named = cond (eqb (numberOf (callConditions e b)) 2) (0 ∷ []) [];
-    }
+callTold e b = toldOf (not (inRange b)) (tooLarge e) 0

@@ -8,8 +8,8 @@ use Rattle.maker.specs.Making.{blockOf}
 use Rattle.reader.specs.declared.Verdict.{Verdict}
 use Rattle.reader.specs.declared.Verdict.the-variants.{Mended, Repeat}
 use Rattle.reader.specs.Judging.{verdict, left}
-use Rattle.receiver.specs.declared.Phase.{Phase}
-use Rattle.receiver.specs.declared.Phase.the-variants.{Collecting, Waiting}
+use Rattle.phases.specs.declared.Phase.{Phase}
+use Rattle.phases.specs.declared.Phase.the-variants.{Collecting, Waiting}
 use Rattle.receiver.specs.declared.Judged.the-variants.{Block}
 use Rattle.receiver.specs.States.{newReceiver}
 use Rattle.receiver.specs.Runs.{Event, byte, on, run, Sent, sent}

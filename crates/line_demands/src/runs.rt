@@ -14,7 +14,7 @@ ghost use Rattle.reader.specs.declared.Verdict.the-variants.{Repeat};
 ghost use Rattle.reader.specs.Judging.{verdict};
 ghost use Rattle.reader.specs.Claims.{NoneNear, OnlyNear};
 ghost use Rattle.codes.specs.Codes.{syn, nack, four, request, Ends, Nowhere};
-ghost use Rattle.receiver.specs.declared.Phase.the-variants.{Off, Collecting, Waiting};
+ghost use Rattle.phases.specs.declared.Phase.the-variants.{Off, Collecting, Waiting};
 ghost use Rattle.receiver.specs.declared.Receiver.{Receiver};
 ghost use Rattle.receiver.specs.declared.Judged.the-variants.{Block};
 ghost use Rattle.receiver.specs.States.{InRange, emptied, newReceiver};

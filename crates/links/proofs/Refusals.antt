@@ -1,13 +1,12 @@
 -- Refusals: 5 before 2, the state handed back, and nothing sent. Assumes nothing.
-use mathlib.Core.Path.{_≡_, refl, sym, ap, ap₂, _∙_}
-use mathlib.Core.Bool.{Bool, true, false, cond, not}
-use mathlib.Core.List.{[], _∷_}
+use mathlib.Core.Path.{_≡_, refl, sym, ap, _∙_}
+use mathlib.Core.Bool.{Bool, true, false, not}
 use Prim.Native.Nat.{ℕ, _<_}
 use native.Mathlib.Omega.{arith}
-use lib.Dec.{ltb, eqb}
+use lib.Dec.{ltb}
 use borrow.Author.Tests.{ltb-false}
 use Rattle.laws.proofs.Computed.{fails}
-use Rattle.numbers.specs.Numbers.{Conditions, numberOf, Told}
+use Rattle.numbers.specs.Numbers.{toldOf}
 use Rattle.wiring.specs.Tables.{localTable, connectedTable}
 use Rattle.hearing.specs.Hearing.{heard}
 use Rattle.links.specs.declared.Links.{Links}
@@ -44,19 +43,10 @@ taken-else toConnected l i h = ap (λ (o : Outcome). o .answer) (table-chosen l 
 
 -- ---- the numbers come of the conditions
 
-conditions : Bool → Bool → Conditions
-conditions i t = record { wrongLength = false; brokenState = not i; tooLarge = t; noRoom = false; repeat = false }
-
-toldBy : Bool → Bool → Told
-toldBy i t =
-    record { number = numberOf (conditions i t); named = cond (eqb (numberOf (conditions i t)) 2) (0 ∷ []) [] }
-
 pub numbers : (c : Call) (l : Links) → told (obey c l .answer) ≡ callTold c l
-unfolding conditions toldBy
 numbers c l = go (inRange l) (tooLarge c) refl refl
   where
-    go : (i t : Bool) → inRange l ≡ i → tooLarge c ≡ t → told (obey c l .answer) ≡ callTold c l
-    go true true e f = ap (λ (o : Outcome). told (o .answer)) (large c l e f) ∙ sym (ap₂ toldBy e f)
-    go true false e f = ap told (taken-else c l e f) ∙ sym (ap₂ toldBy e f)
-    go false true e f = ap (λ (o : Outcome). told (o .answer)) (broken c l e) ∙ sym (ap₂ toldBy e f)
-    go false false e f = ap (λ (o : Outcome). told (o .answer)) (broken c l e) ∙ sym (ap₂ toldBy e f)
+    go : (i t : Bool) → inRange l ≡ i → tooLarge c ≡ t → told (obey c l .answer) ≡ toldOf (not i) t 0
+    go true true e f = ap (λ (o : Outcome). told (o .answer)) (large c l e f)
+    go true false e f = ap told (taken-else c l e f)
+    go false t e f = ap (λ (o : Outcome). told (o .answer)) (broken c l e)

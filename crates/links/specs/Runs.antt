@@ -3,8 +3,8 @@ use mathlib.Core.Path.{_≡_}
 use mathlib.Core.Bool.{Bool, true, false, cond, not}
 use mathlib.Core.List.{List, [], _∷_, _++_}
 use Prim.Native.Nat.{ℕ}
-use lib.Dec.{ltb, eqb}
-use Rattle.numbers.specs.Numbers.{Conditions, numberOf, Told}
+use lib.Dec.{ltb}
+use Rattle.numbers.specs.Numbers.{Told, toldOf}
 use Rattle.values.specs.Large.{Values}
 use Rattle.wiring.specs.declared.Module.{Module}
 use Rattle.wiring.specs.Modules.{same}
@@ -99,23 +99,8 @@ tooLarge toLocal = false
 tooLarge toConnected = false
 
 -- "a state handed in lies outside the ranges .. or links a module to itself"; "a value handed to .. links is above 127"
-abbrev pub callConditions : Call → Links → Conditions
-callConditions c l =
-    record {
-      wrongLength = false;
-      brokenState = not (inRange l);
-      tooLarge = tooLarge c;
-      noRoom = false;
-      repeat = false;
-    }
-
--- what is told of them: number 2 names the value's place
 abbrev pub callTold : Call → Links → Told
-callTold c l =
-    record {
-      number = numberOf (callConditions c l);
-      named = cond (eqb (numberOf (callConditions c l)) 2) (0 ∷ []) [];
-    }
+callTold c l = toldOf (not (inRange l)) (tooLarge c) 0
 
 -- ---- claims
 

@@ -1,8 +1,8 @@
 -- The numbers that a call gives, and their order (01, "Numbers given"). Assumes nothing.
 use Prim.Native.Nat.{ℕ}
 use mathlib.Core.Path.{_≡_}
-use mathlib.Core.Bool.{Bool, cond, _&&_, not}
-use mathlib.Core.List.{List}
+use mathlib.Core.Bool.{Bool, false, cond, _&&_, not}
+use mathlib.Core.List.{List, [], _∷_}
 use lib.Dec.{eqb}
 
 -- which of the table's conditions hold at a call
@@ -40,3 +40,15 @@ pub record GivenExactly (c : Conditions) : Type 0 where
 pub record Told : Type 0 where
   pub number : ℕ
   pub named : List ℕ
+
+-- ---- calls on a state
+
+-- no condition can hold but that the state is broken and that a value handed in is too large
+abbrev pub refusable : Bool → Bool → Conditions
+refusable broken large =
+    record { wrongLength = false; brokenState = broken; tooLarge = large; noRoom = false; repeat = false }
+
+-- what is told of them: number 2 names the place of the value
+abbrev pub toldOf : Bool → Bool → ℕ → Told
+toldOf broken large place =
+    let n = numberOf (refusable broken large) in record { number = n; named = cond (eqb n 2) (place ∷ []) [] }

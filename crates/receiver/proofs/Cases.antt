@@ -9,7 +9,7 @@ use Rattle.maker.specs.Making.{valuesOf}
 use Rattle.reader.specs.declared.Verdict.{Verdict}
 use Rattle.reader.specs.Judging.{left, told, judged}
 use Rattle.reader.proofs.Handed.{told-verdict}
-use Rattle.receiver.specs.declared.Phase.{Phase}
+use Rattle.phases.specs.declared.Phase.{Phase}
 use Rattle.receiver.specs.declared.Receiver.{Receiver}
 use Rattle.receiver.specs.declared.Judged.{Judged}
 use Rattle.receiver.specs.declared.Judged.the-variants.{Block}

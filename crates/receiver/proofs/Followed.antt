@@ -17,8 +17,8 @@ use Rattle.reader.specs.Claims.{NoneNear, OnlyNear}
 use Rattle.codes.specs.declared.Listened.{Listened}
 use Rattle.codes.specs.Codes.{listened}
 use Rattle.codes.proofs.Seen.{seenIn, seen-syns, Heard, heard}
-use Rattle.receiver.specs.declared.Phase.{Phase}
-use Rattle.receiver.specs.declared.Phase.the-variants.{Off, Collecting, Waiting}
+use Rattle.phases.specs.declared.Phase.{Phase}
+use Rattle.phases.specs.declared.Phase.the-variants.{Off, Collecting, Waiting}
 use Rattle.receiver.specs.declared.Receiver.{Receiver}
 use Rattle.receiver.specs.declared.Judged.the-variants.{Nothing, Block}
 use Rattle.receiver.specs.declared.Stepped.{Stepped}

@@ -19,7 +19,7 @@ use Rattle.reader.proofs.Verdicts.{near-only, asked-when-none, twice-refused}
 use Rattle.codes.specs.Codes.{syn, four, request, Nowhere}
 use Rattle.codes.proofs.Numbered.{counted}
 use Rattle.codes.proofs.Seen.{seen-syns, nowhere-syn}
-use Rattle.receiver.specs.declared.Phase.the-variants.{Collecting, Waiting}
+use Rattle.phases.specs.declared.Phase.the-variants.{Collecting, Waiting}
 use Rattle.receiver.specs.declared.Receiver.{Receiver}
 use Rattle.receiver.specs.declared.Stepped.{Stepped}
 use Rattle.receiver.specs.States.{InRange, emptied}

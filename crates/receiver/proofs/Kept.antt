@@ -11,11 +11,12 @@ use Rattle.codes.specs.declared.Listened.{Listened}
 use Rattle.codes.specs.declared.Listened.the-variants.{Seen, Resumed}
 use Rattle.codes.specs.Codes.{listened}
 use Rattle.codes.proofs.Seen.{SeenBelow, listened-lt}
-use Rattle.receiver.specs.declared.Phase.{Phase}
-use Rattle.receiver.specs.declared.Phase.the-variants.{Off, Collecting, Waiting}
+use Rattle.phases.specs.declared.Phase.{Phase}
+use Rattle.phases.specs.Phases.{seenInRange}
+use Rattle.phases.specs.declared.Phase.the-variants.{Off, Collecting, Waiting}
 use Rattle.receiver.specs.declared.Receiver.{Receiver}
 use Rattle.receiver.specs.declared.Stepped.{Stepped}
-use Rattle.receiver.specs.States.{seenInRange, inRange, InRange, emptied, newReceiver}
+use Rattle.receiver.specs.States.{inRange, InRange, emptied, newReceiver}
 use Rattle.receiver.specs.Calls.{silent, refused, holding, waiting, listening, switchedOn, switchedOff}
 use Rattle.receiver.specs.Calls.{againBy, askedAgain}
 use Rattle.receiver.specs.Runs.{Event, byte, on, off, ask, obey, run, Sent, sentBy, sent, allAsked}

@@ -17,8 +17,8 @@ use Rattle.reader.specs.Judging.{verdict, left}
 use Rattle.reader.specs.Claims.{OnlyNear}
 use Rattle.codes.specs.Codes.{plainly}
 use Rattle.codes.proofs.Seen.{plain-lt}
-use Rattle.receiver.specs.declared.Phase.{Phase}
-use Rattle.receiver.specs.declared.Phase.the-variants.{Off, Collecting, Waiting}
+use Rattle.phases.specs.declared.Phase.{Phase}
+use Rattle.phases.specs.declared.Phase.the-variants.{Off, Collecting, Waiting}
 use Rattle.receiver.specs.declared.Receiver.{Receiver}
 use Rattle.receiver.specs.declared.Judged.the-variants.{Block}
 use Rattle.receiver.specs.declared.Stepped.{Stepped}

@@ -9,7 +9,7 @@ use Rattle.maker.specs.Making.{valuesOf}
 use Rattle.reader.specs.declared.Verdict.the-variants.{Repeat}
 use Rattle.reader.specs.Judging.{verdict}
 use Rattle.reader.specs.Claims.{NoneNear, OnlyNear}
-use Rattle.receiver.specs.declared.Phase.the-variants.{Off, Collecting, Waiting}
+use Rattle.phases.specs.declared.Phase.the-variants.{Off, Collecting, Waiting}
 use Rattle.receiver.specs.declared.Receiver.{Receiver}
 use Rattle.receiver.specs.declared.Judged.the-variants.{Block}
 use Rattle.receiver.specs.declared.Stepped.{Stepped}

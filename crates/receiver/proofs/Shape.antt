@@ -17,8 +17,8 @@ use Rattle.reader.specs.Judging.{verdict, left}
 use Rattle.reader.specs.Claims.{Right, NoneNear, OnlyNear}
 use Rattle.reader.proofs.Verdicts.{is-right, handed-on, asked-when-none}
 use Rattle.codes.specs.Codes.{plainly, listened}
-use Rattle.receiver.specs.declared.Phase.{Phase}
-use Rattle.receiver.specs.declared.Phase.the-variants.{Off, Collecting, Waiting}
+use Rattle.phases.specs.declared.Phase.{Phase}
+use Rattle.phases.specs.declared.Phase.the-variants.{Off, Collecting, Waiting}
 use Rattle.receiver.specs.declared.Receiver.{Receiver}
 use Rattle.receiver.specs.declared.Stepped.{Stepped}
 use Rattle.receiver.specs.States.{InRange}

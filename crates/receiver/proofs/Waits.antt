@@ -8,7 +8,7 @@ use Rattle.laws.proofs.Computed.{fails, holds}
 use Rattle.codes.specs.declared.Listened.{Listened}
 use Rattle.codes.specs.Codes.{syn, Ends, Nowhere}
 use Rattle.codes.proofs.Seen.{seenIn, seen-syns, ended, never}
-use Rattle.receiver.specs.declared.Phase.the-variants.{Off, Collecting, Waiting}
+use Rattle.phases.specs.declared.Phase.the-variants.{Off, Collecting, Waiting}
 use Rattle.receiver.specs.declared.Receiver.{Receiver}
 use Rattle.receiver.specs.declared.Judged.the-variants.{Nothing}
 use Rattle.receiver.specs.declared.Stepped.{Stepped}

@@ -14,7 +14,7 @@ use Rattle.validity.specs.Block.{Valid}
 use Rattle.maker.specs.Making.{blockOf}
 use Rattle.maker.proofs.Blocks.{made-valid}
 use Rattle.codes.specs.Codes.{syn, four, request, Nowhere}
-use Rattle.receiver.specs.declared.Phase.the-variants.{Collecting, Waiting}
+use Rattle.phases.specs.declared.Phase.the-variants.{Collecting, Waiting}
 use Rattle.receiver.specs.declared.Receiver.{Receiver}
 use Rattle.receiver.specs.declared.Stepped.{Stepped}
 use Rattle.receiver.specs.States.{InRange, emptied}

@@ -13,24 +13,18 @@ ghost use Rattle.receiver.specs.States.{newReceiver};
 ghost use Rattle.receiver.specs.Calls.{stepped, switchedTo, switchedOn, switchedOff, askedAgain};
 
 mod outcomes;
-mod phases;
 mod requests;
 mod states;
+mod while_on;
 
 use outcomes::pass;
 use outcomes::silent;
-use phases::collect;
-use phases::hear;
+pub use phases::Phase;
 use reader::Verdict;
 use requests::ask;
 pub use states::in_range;
-
-pub enum Phase {
-    Off,
-    Collecting,
-    // The synchronising codes seen, 0 to 2.
-    Waiting(u8),
-}
+use while_on::collect;
+use while_on::hear;
 
 pub struct Receiver {
     // The first `count` are the bytes held; the others are no part of the state.
@@ -70,7 +64,7 @@ impl Receiver {
             held: [0; 17],
             count: 0,
             number: 0,
-            phase: Phase::Off,
+            phase: Phase::start(),
         }
     }
 

@@ -7,18 +7,8 @@ use crate::Receiver;
 pub fn in_range(r: Receiver) -> bool
     ensures { λ o. ⌜ o ≡ inRange r ⌝ }
 {
-    if 16 <= r.number {
-        return false;
-    }
-    if 17 <= r.count {
-        return false;
-    }
     let phase = r.phase;
-    match phase {
-        Phase::Off => true,
-        Phase::Collecting => true,
-        Phase::Waiting(seen) => seen < 3,
-    }
+    phases::in_range(r.number, r.count, phase)
 }
 
 pub(crate) fn emptied(number: u8, phase: Phase) -> Receiver

@@ -6,11 +6,11 @@ use mathlib.Core.Logic.{⊎-elim}
 use Prim.Native.Nat.{ℕ, suc, _≤_, _<_}
 use native.Mathlib.Omega.{arith}
 use native.Mathlib.Nat.{zero-lt-suc}
-use lib.Dec.{ltb, eqb}
+use lib.Dec.{ltb}
 use lib.ListN.{length}
 use borrow.Author.Tests.{lt-ltb, le-ltb}
 use Rattle.laws.proofs.Computed.{apart, chosen}
-use Rattle.numbers.specs.Numbers.{Told, numberOf}
+use Rattle.numbers.specs.Numbers.{toldOf}
 use Rattle.values.specs.Large.{Values, firstLarge}
 use Rattle.values.proofs.Found.{none-large, values-append}
 use Rattle.page.specs.declared.Screen.{Screen}
@@ -28,15 +28,9 @@ use Rattle.screen.proofs.Answers.{ran-taken}
 
 -- ---- numbers
 
--- what a call tells: whether the state is broken, whether a value is too large, and its place
-abbrev tells : Bool → Bool → ℕ → Told
-tells t u k =
-    let n = numberOf (record { wrongLength = false; brokenState = t; tooLarge = u; noRoom = false; repeat = false }) in
-    record { number = n; named = cond (eqb n 2) (k ∷ []) [] }
-
 -- what a run tells comes of its conditions
 told-by : (t u : Bool) (s x : Screen) (k : ℕ)
-    → told (cond t (runsTo s Broken) (cond u (runsTo s (TooLarge k)) (runsTo x Taken)) .answer) ≡ tells t u k
+    → told (cond t (runsTo s Broken) (cond u (runsTo s (TooLarge k)) (runsTo x Taken)) .answer) ≡ toldOf t u k
 told-by true u s x k = refl
 told-by false true s x k = refl
 told-by false false s x k = refl
@@ -46,11 +40,11 @@ unfolding ran
 run-told s vs = told-by (broken s) (ltb (firstLarge vs) (length vs)) s (advancedBy s vs) (firstLarge vs)
 
 large-told : (t : Bool) (s : Screen)
-    → told (cond t (stepsTo s Broken) (stepsTo s (TooLarge 0)) .answer) ≡ tells t true 0
+    → told (cond t (stepsTo s Broken) (stepsTo s (TooLarge 0)) .answer) ≡ toldOf t true 0
 large-told true s = refl
 large-told false s = refl
 
-small-told : (t : Bool) (s x : Screen) → told (cond t (stepsTo s Broken) (stepsTo x Taken) .answer) ≡ tells t false 1
+small-told : (t : Bool) (s x : Screen) → told (cond t (stepsTo s Broken) (stepsTo x Taken) .answer) ≡ toldOf t false 1
 small-told true s x = refl
 small-told false s x = refl
 

@@ -1,10 +1,10 @@
 -- What each call answers and hands back, for any state and any values (01, "Numbers given"). Assumes nothing.
-use mathlib.Core.Bool.{false, cond}
+use mathlib.Core.Bool.{cond}
 use mathlib.Core.List.{List, [], _∷_}
 use Prim.Native.Nat.{ℕ}
-use lib.Dec.{ltb, eqb}
+use lib.Dec.{ltb}
 use lib.ListN.{length}
-use Rattle.numbers.specs.Numbers.{Conditions, numberOf, Told}
+use Rattle.numbers.specs.Numbers.{Told, toldOf}
 use Rattle.values.specs.Large.{firstLarge}
 use Rattle.page.specs.declared.Screen.{Screen}
 use Rattle.page.specs.Ranges.{broken}
@@ -41,20 +41,6 @@ ran s vs =
     (cond (ltb (firstLarge vs) (length vs)) (runsTo s (TooLarge (firstLarge vs))) (runsTo (advancedBy s vs) Taken))
 
 -- "a state handed in lies outside the ranges this page gives"; "a value handed to .. screen .. is above 127"
-abbrev pub runConditions : Screen → List ℕ → Conditions
-runConditions s vs =
-    record {
-      wrongLength = false;
-      brokenState = broken s;
-      tooLarge = ltb (firstLarge vs) (length vs);
-      noRoom = false;
-      repeat = false;
-    }
-
--- what is told of them: number 2 names the "lowest place"
+-- number 2 names the "lowest place"
 abbrev pub runTold : Screen → List ℕ → Told
-runTold s vs =
-    record {
-      number = numberOf (runConditions s vs);
-      named = cond (eqb (numberOf (runConditions s vs)) 2) (firstLarge vs ∷ []) [];
-    }
+runTold s vs = toldOf (broken s) (ltb (firstLarge vs) (length vs)) (firstLarge vs)

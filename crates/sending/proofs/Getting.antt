@@ -30,10 +30,10 @@ use Rattle.sending.specs.Sending.{partOf, gets, FewIn}
 
 -- ---- who gets it
 
-pub unpacked : (vs : List ℕ) → bytesOf (packed vs) ≡ vs
+unpacked : (vs : List ℕ) → bytesOf (packed vs) ≡ vs
 unpacked vs = take-append-seam vs _
 
-pub part-of : (w : Row) (b : Bytes) (r : Module) → partOf (to w b) r ≡ cond (marked w r) b (packed [])
+part-of : (w : Row) (b : Bytes) (r : Module) → partOf (to w b) r ≡ cond (marked w r) b (packed [])
 part-of w b Screen = refl
 part-of w b Keyboard = refl
 part-of w b Modem = refl
@@ -56,7 +56,7 @@ gets-nothing Keyboard = refl
 gets-nothing Modem = refl
 gets-nothing Socket = refl
 
-pub only-marked : (m r : Module) → marked (onlyTo m) r ≡ same r m
+only-marked : (m r : Module) → marked (onlyTo m) r ≡ same r m
 only-marked Screen Screen = refl
 only-marked Screen Keyboard = refl
 only-marked Screen Modem = refl

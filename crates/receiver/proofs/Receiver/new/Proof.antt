@@ -1,10 +1,13 @@
 -- `receiver::Receiver::new` meets its contract. Assumes nothing.
-use mathlib.Core.Path.{refl}
+use borrow.Author.Needs.{needs}
 use Rattle.receiver.proofs.Receiver.new.Statement.{statement}
 use Rattle.receiver.proofs.Receiver.new.Tie as tie
 
+start-requires : tie.Need-start-requires
+start-requires c κs = search needs
+
 returns : tie.Need-returns
-returns c = refl
+returns c = simp (c .start .ensures)
 
 pub new-spec : {M : Type 1} → statement M
-new-spec = tie.close (tie.spec returns)
+new-spec = tie.close (tie.spec start-requires returns)

@@ -1,7 +1,7 @@
--- `receiver::phases::hear` meets its contract. Assumes nothing.
+-- `receiver::while_on::hear` meets its contract. Assumes nothing.
 use borrow.Author.Needs.{needs}
-use Rattle.receiver.proofs.phases.hear.Statement.{statement}
-use Rattle.receiver.proofs.phases.hear.Tie as tie
+use Rattle.receiver.proofs.while_on.hear.Statement.{statement}
+use Rattle.receiver.proofs.while_on.hear.Tie as tie
 
 enum-known-heard : tie.Need-enum-known-heard
 enum-known-heard c = search needs

@@ -1,8 +1,8 @@
--- `receiver::phases::collect` meets its contract. Assumes nothing.
+-- `receiver::while_on::collect` meets its contract. Assumes nothing.
 use borrow.Author.Tests.{le-ltb, lt-ltb}
 use borrow.Author.Needs.{needs}
-use Rattle.receiver.proofs.phases.collect.Statement.{statement}
-use Rattle.receiver.proofs.phases.collect.Tie as tie
+use Rattle.receiver.proofs.while_on.collect.Statement.{statement}
+use Rattle.receiver.proofs.while_on.collect.Tie as tie
 
 judge-held-requires : tie.Need-judge-held-requires
 judge-held-requires c κs = search needs

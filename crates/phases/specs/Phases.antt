@@ -1,0 +1,21 @@
+-- The phases of the line receiver, and the ranges of what it counts (01, "The receiver"). Assumes nothing.
+use mathlib.Core.Bool.{Bool, true, _&&_}
+use Prim.Native.Nat.{ℕ}
+use lib.Dec.{ltb}
+use Rattle.phases.specs.declared.Phase.{Phase}
+use Rattle.phases.specs.declared.Phase.the-variants.{Off, Collecting, Waiting}
+
+-- "A new receiver is off"
+abbrev pub atStart : Phase
+atStart = Off
+
+-- "in waiting, synchronising codes seen 0 to 2"
+abbrev pub seenInRange : Phase → Bool
+seenInRange Off = true
+seenInRange Collecting = true
+seenInRange (Waiting n) = ltb n 3
+
+-- "Ranges: block number 0 to 15; held bytes 0 to 16; phase off, collecting or waiting; in waiting, synchronising
+-- codes seen 0 to 2"
+abbrev pub inRange : ℕ → ℕ → Phase → Bool
+inRange number count phase = ltb number 16 && (ltb count 17 && seenInRange phase)
