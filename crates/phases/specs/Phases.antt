@@ -1,4 +1,5 @@
--- The phases of the line receiver, and the ranges of what it counts (01, "The receiver"). Assumes nothing.
+-- The phases of the line receiver, what completes a block, and the ranges of what it counts (01, "The receiver").
+-- Assumes nothing.
 use mathlib.Core.Bool.{Bool, true, _&&_}
 use Prim.Native.Nat.{ℕ}
 use lib.Dec.{ltb}
@@ -8,6 +9,10 @@ use Rattle.phases.specs.declared.Phase.the-variants.{Off, Collecting, Wa
 -- "A new receiver is off"
 abbrev pub atStart : Phase
 atStart = Off
+
+-- "the byte is held. At the 17th the block is judged": with so many held, the next byte is not the 17th
+abbrev pub awaitsMore : ℕ → Bool
+awaitsMore count = ltb count 16
 
 -- "in waiting, synchronising codes seen 0 to 2"
 abbrev pub seenInRange : Phase → Bool

@@ -1,7 +1,7 @@
-// The phases of the line receiver, and the ranges of what it counts (01, "The receiver"). specs/Phases says what is in
-// range.
+// The phases of the line receiver, what completes a block, and the ranges of what it counts (01, "The receiver").
+// specs/Phases says what each is; proofs/Seventeenth shows that it is the seventeenth byte which completes a block.
 ghost use mathlib.Core.Path.{_≡_};
-ghost use Rattle.phases.specs.Phases.{atStart, inRange};
+ghost use Rattle.phases.specs.Phases.{atStart, awaitsMore, inRange};
 
 pub enum Phase {
     Off,
@@ -17,6 +17,13 @@ impl Phase {
     {
         Self::Off
     }
+}
+
+// Whether a block is still incomplete with one byte more than so many.
+pub fn awaits_more(count: usize) -> bool
+    ensures { λ r. ⌜ r ≡ awaitsMore count ⌝ }
+{
+    count < 16
 }
 
 // Whether a block's number, a count of bytes held and a phase lie within the ranges of the page.

@@ -4,13 +4,13 @@ use mathlib.Core.List.{List, []}
 use mathlib.Core.Logic.{_⊎_, inl, inr}
 use Prim.Native.Nat.{ℕ, _≤_}
 use native.Mathlib.Omega.{arith}
-use lib.Dec.{ltb}
 use lib.ListN.{length}
 use Rattle.laws.proofs.Computed.{chosen}
 use Rattle.maker.specs.Making.{valuesOf}
 use Rattle.reader.specs.declared.Verdict.{Verdict}
 use Rattle.reader.specs.Judging.{verdict, left}
 use Rattle.codes.specs.Codes.{request}
+use Rattle.phases.specs.Phases.{awaitsMore}
 use Rattle.phases.specs.declared.Phase.{Phase}
 use Rattle.phases.specs.declared.Phase.the-variants.{Off, Collecting, Waiting}
 use Rattle.receiver.specs.declared.Receiver.{Receiver}
@@ -66,7 +66,7 @@ judged-counted v x vs = chosen Counted (accepts v) (λ a. (omega arith, refl)) (
 phase-counted : (p : Phase) (r : Receiver) (b : ℕ) → Counted (byPhase p r b)
 phase-counted Off r b = (omega arith, refl)
 phase-counted Collecting r b =
-    chosen Counted (ltb (r .count) 16) (λ h. (omega arith, refl))
+    chosen Counted (awaitsMore (r .count)) (λ h. (omega arith, refl))
     (λ h. judged-counted (verdict (whole r b)) (r .number) (valuesOf (left (whole r b))))
 phase-counted (Waiting n) r b = (omega arith, refl)
 

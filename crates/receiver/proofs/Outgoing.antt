@@ -4,7 +4,6 @@ use mathlib.Core.Bool.{Bool, true, false, cond, not}
 use mathlib.Core.List.{List, [], _∷_}
 use Prim.Native.Nat.{ℕ, zero, suc, _-_, _<_}
 use native.Mathlib.Omega.{arith}
-use lib.Dec.{ltb}
 use lib.ListN.{length, replicate}
 use lib.Seq.{take-at}
 use Rattle.numbers.specs.Numbers.{numberOf}
@@ -17,6 +16,7 @@ use Rattle.reader.specs.Judging.{verdict, left}
 use Rattle.reader.specs.Claims.{OnlyNear}
 use Rattle.codes.specs.Codes.{plainly}
 use Rattle.codes.proofs.Seen.{plain-lt}
+use Rattle.phases.specs.Phases.{awaitsMore}
 use Rattle.phases.specs.declared.Phase.{Phase}
 use Rattle.phases.specs.declared.Phase.the-variants.{Off, Collecting, Waiting}
 use Rattle.receiver.specs.declared.Receiver.{Receiver}
@@ -63,7 +63,7 @@ either-way false s u p q = q
 byte-answer : (p : Phase) (r : Receiver) (b : ℕ) → byPhase p r b .answer ≡ 0
 byte-answer Off r b = refl
 byte-answer Collecting r b =
-    either-way (ltb (r .count) 16) (silent (holding r b)) (judgedHeld r b) refl
+    either-way (awaitsMore (r .count)) (silent (holding r b)) (judgedHeld r b) refl
     (either-way (accepts (verdict (whole r b)))
     (accepted (r .number) (valuesOf (left (whole r b))) (verdict (whole r b)))
     (repeated (r .number) (verdict (whole r b))) refl refl)

@@ -2,17 +2,17 @@
 use mathlib.Core.Path.{_≡_, refl, sym, ap, _∙_, subst, subst⁻¹}
 use mathlib.Core.Bool.{Bool, true, false, cond}
 use mathlib.Core.List.{List, [], _∷_, _++_}
-use Prim.Native.Nat.{ℕ, _≤_, _<_}
+use Prim.Native.Nat.{ℕ, _<_}
 use native.Mathlib.Omega.{arith}
-use lib.Dec.{ltb}
 use lib.ListN.{take, length-set}
-use borrow.Author.Tests.{ltb-true, ltb-false}
 use Rattle.maker.specs.Making.{valuesOf}
 use Rattle.reader.specs.declared.Verdict.{Verdict}
 use Rattle.reader.specs.Judging.{verdict, left}
 use Rattle.codes.specs.declared.Listened.{Listened}
 use Rattle.codes.specs.declared.Listened.the-variants.{Seen, Resumed}
 use Rattle.codes.specs.Codes.{plainly, request, listened}
+use Rattle.phases.specs.Phases.{awaitsMore}
+use Rattle.phases.proofs.Seventeenth.{not-yet, the-last}
 use Rattle.phases.specs.declared.Phase.{Phase}
 use Rattle.phases.specs.declared.Phase.the-variants.{Off, Collecting, Waiting}
 use Rattle.receiver.specs.declared.Receiver.{Receiver}
@@ -74,16 +74,15 @@ module _ (r : Receiver) (l : List ℕ) (a : Alike r (with-held r l)) where
       ∙ sym (whole-is q b (a .arrays .1))
 
   collecting-alike : (b : ℕ) → r .count < 17 → AlikeSteps (collecting r b) (collecting q b)
-  collecting-alike b h = go (ltb (r .count) 16) refl
+  collecting-alike b h = go (awaitsMore (r .count)) refl
     where
-      go : (t : Bool) → ltb (r .count) 16 ≡ t
+      go : (t : Bool) → awaitsMore (r .count) ≡ t
           → AlikeSteps (cond t (silent (holding r b)) (judgedHeld r b))
           (cond t (silent (holding q b)) (judgedHeld q b))
-      go true e = giving-alike 0 [] [] Nothing (holding-alike b (ltb-true (r .count) 16 e))
+      go true e = giving-alike 0 [] [] Nothing (holding-alike b (not-yet (r .count) e))
       go false e =
-          let k : 16 ≤ r .count = ltb-false (r .count) 16 e in
           subst (λ (B : List ℕ). AlikeSteps (judgedHeld r b) (judgedAs (verdict B) (r .number) (valuesOf (left B))))
-          (same-whole b (omega (arith, h, k)))
+          (same-whole b (the-last (r .count) h e))
           (judged-alike (verdict (whole r b)) (r .number) (valuesOf (left (whole r b))))
 
   waiting-alike : (n : ℕ) → Alike (waiting r n) (waiting q n)

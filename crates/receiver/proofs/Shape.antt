@@ -2,13 +2,11 @@
 use mathlib.Core.Path.{_≡_, refl, sym, ap, _∙_, subst, subst⁻¹}
 use mathlib.Core.Bool.{Bool, true, false, cond}
 use mathlib.Core.List.{List, _++_, _∷_, []}
-use Prim.Native.Nat.{ℕ, _+_, _≤_, _<_}
+use Prim.Native.Nat.{ℕ, _+_, _<_}
 use native.Mathlib.Numerals.{add-one}
 use native.Mathlib.Omega.{arith}
-use lib.Dec.{ltb}
 use lib.ListN.{length, take, set, length-set}
 use lib.Seq.{take-suc-set, take-all}
-use borrow.Author.Tests.{ltb-true, ltb-false}
 use Rattle.laws.proofs.Computed.{holds, fails}
 use Rattle.maker.specs.Making.{valuesOf}
 use Rattle.reader.specs.declared.Verdict.{Verdict}
@@ -17,6 +15,8 @@ use Rattle.reader.specs.Judging.{verdict, left}
 use Rattle.reader.specs.Claims.{Right, NoneNear, OnlyNear}
 use Rattle.reader.proofs.Verdicts.{is-right, handed-on, asked-when-none}
 use Rattle.codes.specs.Codes.{plainly, listened}
+use Rattle.phases.specs.Phases.{awaitsMore}
+use Rattle.phases.proofs.Seventeenth.{not-yet, the-last}
 use Rattle.phases.specs.declared.Phase.{Phase}
 use Rattle.phases.specs.declared.Phase.the-variants.{Off, Collecting, Waiting}
 use Rattle.receiver.specs.declared.Receiver.{Receiver}
@@ -84,14 +84,11 @@ module _ (r : Receiver) (b : ℕ) (g : InRange r) where
           subst⁻¹ (λ (w : Verdict). Shape r b (repeated (r .number) w)) z (none f k (asked-when-none B B-long .0 z))
 
   at-collecting : r .phase ≡ Collecting → Shape r b (collecting r b)
-  at-collecting f = go (ltb (r .count) 16) refl
+  at-collecting f = go (awaitsMore (r .count)) refl
     where
-      go : (t : Bool) → ltb (r .count) 16 ≡ t → Shape r b (cond t (silent (holding r b)) (judgedHeld r b))
-      go true e = more f (ltb-true (r .count) 16 e)
-      go false e =
-          let h : 16 ≤ r .count = ltb-false (r .count) 16 e in
-          let k : r .count < 17 = count-in r (g .range) in
-          at-last f (omega arith)
+      go : (t : Bool) → awaitsMore (r .count) ≡ t → Shape r b (cond t (silent (holding r b)) (judgedHeld r b))
+      go true e = more f (not-yet (r .count) e)
+      go false e = at-last f (the-last (r .count) (count-in r (g .range)) e)
 
   by-phase : (p : Phase) → r .phase ≡ p → Shape r b (byPhase p r b)
   by-phase Off f = plain f

@@ -2,7 +2,6 @@
 use mathlib.Core.Bool.{Bool, true, false, cond}
 use mathlib.Core.List.{List, [], _∷_, _++_}
 use Prim.Native.Nat.{ℕ, _+_, _-_}
-use lib.Dec.{ltb}
 use lib.ListN.{length, set, replicate}
 use Rattle.maker.specs.Making.{valuesOf}
 use Rattle.reader.specs.declared.Verdict.{Verdict}
@@ -10,6 +9,7 @@ use Rattle.reader.specs.declared.Verdict.the-variants.{Clean, Mended, Repeat, W
 use Rattle.reader.specs.Judging.{verdict, left}
 use Rattle.codes.specs.declared.Listened.{Listened}
 use Rattle.codes.specs.declared.Listened.the-variants.{Seen, Resumed}
+use Rattle.phases.specs.Phases.{awaitsMore}
 use Rattle.codes.specs.Codes.{plainly, next, request, listened}
 use Rattle.phases.specs.declared.Phase.{Phase}
 use Rattle.phases.specs.declared.Phase.the-variants.{Off, Collecting, Waiting}
@@ -92,7 +92,7 @@ judgedHeld r b = judgedAs (verdict (whole r b)) (r .number) (valuesOf (left (who
 
 -- "Collecting: the byte is held. At the 17th the block is judged"
 abbrev pub collecting : Receiver → ℕ → Stepped
-collecting r b = cond (ltb (r .count) 16) (silent (holding r b)) (judgedHeld r b)
+collecting r b = cond (awaitsMore (r .count)) (silent (holding r b)) (judgedHeld r b)
 
 -- ---- waiting
 

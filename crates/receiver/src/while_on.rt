@@ -51,13 +51,13 @@ pub(crate) fn collect(r: Receiver, byte: u8) -> Stepped
     ensures { λ s. ⌜ s ≡ collecting r byte ⌝ }
 {
     let count = r.count;
-    if 16 <= count {
-        return judge_held(r, byte);
+    if phases::awaits_more(count) {
+        let mut next = r;
+        next.held[count] = byte;
+        next.count = count + 1;
+        return silent(next, 0);
     }
-    let mut next = r;
-    next.held[count] = byte;
-    next.count = count + 1;
-    silent(next, 0)
+    judge_held(r, byte)
 }
 
 // Waiting: what listening to the byte made of it.

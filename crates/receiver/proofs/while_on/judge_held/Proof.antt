@@ -4,9 +4,7 @@ use mathlib.Core.Path.{ap, sym, _∙_}
 use mathlib.Core.List.{List}
 use Prim.Native.Nat.{ℕ}
 use borrow.Author.Needs.{needs}
-use Rattle.phases.specs.declared.Phase.the-variants.{Collecting}
 use Rattle.receiver.specs.declared.Receiver.{Receiver}
-use Rattle.receiver.specs.States.{emptied}
 use Rattle.receiver.specs.Calls.{accepted}
 use Rattle.receiver.proofs.Cases.{accepting, as-judged}
 use Rattle.receiver.proofs.while_on.judge_held.Statement.{statement}
@@ -43,8 +41,8 @@ returns : tie.Need-returns
 returns c =
     let t = c .before .before in
     let m = t .before .before .before .before in
-    let n = ap (λ (x : ℕ). emptied x Collecting) (t .before .before .next-number .ensures) in
-    accepting (was m .number) (c .values .result) (m .mend .result) (c .before .emptied .ensures ∙ n) (search needs)
+    accepting (was m .number) (c .values .result) (m .mend .result)
+    (simp (c .before .emptied .ensures, t .before .before .next-number .ensures)) (search needs)
     ∙ ap (λ (vs : List ℕ). accepted (was m .number) vs (m .mend .result)) (c .values .ensures)
     ∙ as-judged (was m) (last m) (m .mend .result) (m .mend .last .0) (m .mend .ensures)
     (sym (t .before .accepts .ensures) ∙ t .if1 .taken)
