@@ -6,7 +6,9 @@ use Rattle.numbers.specs.Numbers.{toldOf}
 use Rattle.receiver.specs.States.{inRange as receiverInRange}
 use Rattle.receiver.specs.Runs.{byte, on, off, ask}
 use Rattle.links.specs.declared.Ear.the-variants.{Socket as fromSocket}
+use Rattle.links.specs.declared.Answer.the-variants.{Taken, TooLarge, Broken}
 use Rattle.links.specs.States.{inRange as linksInRange}
+use Rattle.links.specs.Calls.{told}
 use Rattle.links.specs.Runs.{Call, key as keyCall, value, toLocal as localCall, toConnected as connectedCall}
 use Rattle.links.specs.Runs.{obey as linksObey, tooLarge as largeCall}
 use Rattle.links.proofs.Refusals.{large as links-large, taken-else}
@@ -14,10 +16,9 @@ use Rattle.page.specs.declared.Screen.{Screen as Page}
 use Rattle.page.specs.Ranges.{broken as screenBroken}
 use Rattle.screen.proofs.Given.{ran-none}
 use Rattle.board.specs.declared.Board.{Board}
-use Rattle.board.specs.declared.Answer.the-variants.{Taken, TooLarge, Broken}
 use Rattle.board.specs.declared.Outcome.{Outcome}
 use Rattle.board.specs.Boards.{inRange}
-use Rattle.board.specs.Calls.{told, refused, following, answerOf, passing}
+use Rattle.board.specs.Calls.{refused, following, passing}
 use Rattle.board.specs.Runs.{Event, front, key, socket, toLocal, toConnected, obey, tooLarge, callTold}
 
 pub broken : (e : Event) (b : Board) → inRange b ≡ false → obey e b ≡ refused b Broken
@@ -60,7 +61,7 @@ large toConnected b i t = absurd (fails (sym t) tt)
 call-taken : (c : Call) (b : Board) → inRange b ≡ true → largeCall c ≡ false
     → passing b (linksObey c (b .links)) .answer ≡ Taken
 unfolding passing
-call-taken c b i h = simp i (ap answerOf (taken-else c (b .links) (links-in b i) h))
+call-taken c b i h = simp i (taken-else c (b .links) (links-in b i) h)
 
 taken-else-here : (e : Event) (b : Board) → inRange b ≡ true → tooLarge e ≡ false → obey e b .answer ≡ Taken
 unfolding following

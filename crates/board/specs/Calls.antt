@@ -1,34 +1,25 @@
 -- What each call answers, hands back and hands out, for any board and any value (01, "Numbers given"). Assumes
 -- nothing.
 use mathlib.Core.Bool.{cond}
-use mathlib.Core.List.{List, [], _∷_}
+use mathlib.Core.List.{List, []}
 use Prim.Native.Nat.{ℕ}
 use lib.ListN.{take, replicate}
-use Rattle.numbers.specs.Numbers.{Told}
 use Rattle.receiver.specs.declared.Receiver.{Receiver}
 use Rattle.receiver.specs.declared.Stepped.{Stepped}
 use Rattle.receiver.specs.Calls.{stepped, switchedOn as receiverOn, switchedOff as receiverOff}
 use Rattle.receiver.specs.Calls.{askedAgain as receiverAsked}
 use Rattle.sending.specs.Sending.{gets}
 use Rattle.links.specs.declared.Links.{Links}
-use Rattle.links.specs.declared.Answer.{Answer as LinksAnswer}
-use Rattle.links.specs.declared.Answer.the-variants.{Taken as taken, TooLarge as tooLarge, Broken as broken}
+use Rattle.links.specs.declared.Answer.{Answer}
+use Rattle.links.specs.declared.Answer.the-variants.{Taken, Broken}
 use Rattle.links.specs.declared.Outcome.{Outcome as LinksOutcome}
 use Rattle.links.specs.Calls.{fromKeyboard, fromSocket, withLocal as linksLocal, withConnected as linksConnected}
 use Rattle.feeding.specs.declared.Shares.{Shares}
 use Rattle.feeding.specs.Feeding.{outlet, contents, sharesOf, fed}
 use Rattle.screen.specs.Calls.{ran}
 use Rattle.board.specs.declared.Board.{Board}
-use Rattle.board.specs.declared.Answer.{Answer}
-use Rattle.board.specs.declared.Answer.the-variants.{Taken, TooLarge, Broken}
 use Rattle.board.specs.declared.Outcome.{Outcome}
 use Rattle.board.specs.Boards.{inRange}
-
--- the number of each answer, and what it names: a single value stands at place 0
-abbrev pub told : Answer → Told
-told Taken = record { number = 0; named = [] }
-told TooLarge = record { number = 2; named = 0 ∷ [] }
-told Broken = record { number = 5; named = [] }
 
 -- ---- what a call hands back
 
@@ -82,14 +73,9 @@ askedAgain b = following b (receiverAsked (b .receiver))
 
 -- ---- the links' calls: what they send goes its way, and their answer is the board's
 
-abbrev pub answerOf : LinksAnswer → Answer
-answerOf taken = Taken
-answerOf tooLarge = TooLarge
-answerOf broken = Broken
-
 abbrev pub passedOn : Board → LinksOutcome → Outcome
 passedOn b o =
-    joined b (b .receiver) (o .next) (sharesOf (gets (o .sent))) (answerOf (o .answer)) (replicate 2 0) 0
+    joined b (b .receiver) (o .next) (sharesOf (gets (o .sent))) (o .answer) (replicate 2 0) 0
 
 unfoldable pub passing : Board → LinksOutcome → Outcome
 passing b o = cond (inRange b) (passedOn b o) (refused b Broken)

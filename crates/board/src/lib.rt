@@ -13,11 +13,13 @@ ghost use Prim.Native.Nat.{_≤_};
 ghost use Rattle.feeding.specs.Feeding.{contents, Enough};
 ghost use Rattle.screen.specs.Calls.{ran};
 ghost use Rattle.board.specs.Boards.{freshBoard, inRange};
-ghost use Rattle.board.specs.Calls.{refused, joined, following, answerOf, passing};
+ghost use Rattle.board.specs.Calls.{refused, joined, following, passing};
 ghost use Rattle.board.specs.Calls.{atLine, switchedOn, switchedOff, askedAgain};
 ghost use Rattle.board.specs.Calls.{atKey, atSocket, withLocal, withConnected};
 use feeding::Outlet;
 use feeding::Shares;
+// What a call of a board answers is what one of the links can: the paper's 0, 2 and 5.
+pub use links::Answer;
 use links::Links;
 use page::Screen;
 use receiver::Receiver;
@@ -27,14 +29,6 @@ pub struct Board {
     pub receiver: Receiver,
     pub links: Links,
     pub screen: Screen,
-}
-
-// What a call answers: the paper's 0, 2 and 5.
-pub enum Answer {
-    Taken,
-    // A key or a socket's value above 127.
-    TooLarge,
-    Broken,
 }
 
 pub struct Outcome {
@@ -76,17 +70,6 @@ fn show(screen: Screen, sent: Outlet) -> Screen
     let codes = sent.codes;
     let shown = screen::run(screen, &codes[..sent.count]);
     shown.screen
-}
-
-// What the links answered.
-fn answer_of(answer: links::Answer) -> Answer
-    ensures { λ r. ⌜ r ≡ answerOf answer ⌝ }
-{
-    match answer {
-        links::Answer::Taken => Answer::Taken,
-        links::Answer::TooLarge => Answer::TooLarge,
-        links::Answer::Broken => Answer::Broken,
-    }
 }
 
 impl Board {
@@ -178,7 +161,7 @@ impl Board {
             let answer = outcome.answer;
             let request = [0u8; 2];
             let shares = feeding::share_out(sent);
-            return self.join(receiver, links, shares, answer_of(answer), request, 0);
+            return self.join(receiver, links, shares, answer, request, 0);
         }
         refuse(self, Answer::Broken)
     }

@@ -104,8 +104,8 @@ fn granted(wish: Wish, words: &[u8], now: Links, known: &mut bool) -> Outcome {
     }
 }
 
-// The number that a call answered.
-fn write_answer(answer: Answer) {
+// The number that a call on the links or on a board answered.
+pub(crate) fn write_answer(answer: Answer) {
     let number = match answer {
         Answer::Taken => 0,
         Answer::TooLarge => 2,

@@ -3,13 +3,13 @@
 //
 // A board is larger than a screen, and a proof pays for each that a function holds: so few functions do, and each has
 // one place where the answer is written.
+use crate::linking::write_answer;
 use crate::parts::first;
 use crate::receiving::write_state as write_receiver;
 use crate::showing::write_cells;
 use crate::showing::write_pen;
 use crate::wires::write_links;
 use crate::words::write_bytes;
-use board::Answer;
 use board::Board;
 use board::Outcome;
 use feeding::Outlet;
@@ -41,16 +41,6 @@ pub(crate) fn answer(done: Outcome) -> Board {
     write_request(request, done.asked);
     write_state(next);
     next
-}
-
-// The number that a call answered.
-fn write_answer(answer: Answer) {
-    let number = match answer {
-        Answer::Taken => 0,
-        Answer::TooLarge => 2,
-        Answer::Broken => 5,
-    };
-    io::print_decimal(1, number);
 }
 
 // Writes a name, and bytes after it.

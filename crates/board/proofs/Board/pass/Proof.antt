@@ -10,21 +10,17 @@ in-range-requires c κs = search needs
 share-out-requires : tie.Need-share-out-requires
 share-out-requires c κs = search needs
 
-answer-of-requires : tie.Need-answer-of-requires
-answer-of-requires c κs = search needs
-
 join-requires : tie.Need-join-requires
-join-requires c κs = c .before .share-out .ensures .1
+join-requires c κs = c .share-out .ensures .1
 
 returns : tie.Need-returns
 unfolding passing
 returns c =
     simp (
       c .join .ensures,
-      c .before .answer-of .ensures,
-      c .before .before .share-out .ensures .0,
-      c .before .before .before .before .before .before .if1 .taken,
-      ← c .before .before .before .before .before .before .before .in-range .ensures,
+      c .before .share-out .ensures .0,
+      c .before .before .before .before .before .if1 .taken,
+      ← c .before .before .before .before .before .before .in-range .ensures,
     )
 
 refuse-requires : tie.Need-refuse-requires
@@ -40,7 +36,6 @@ pass-spec =
     (tie.spec
     in-range-requires
     share-out-requires
-    answer-of-requires
     join-requires
     returns
     refuse-requires
