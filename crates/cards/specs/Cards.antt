@@ -19,7 +19,7 @@ use Rattle.cursor.specs.Places.{at}
 use Rattle.cells.specs.declared.Cell.{Cell}
 use Rattle.cells.specs.Characters.{blankOf}
 use Rattle.page.specs.Pages.{freshScreen}
-use Rattle.screen.specs.declared.Answer.the-variants.{Taken}
+use Rattle.answers.specs.declared.Answer.the-variants.{Taken}
 use Rattle.screen.specs.Calls.{ran}
 
 -- values and the block made of them; or a block that arrives, its verdict, and the block left; or what happens to a

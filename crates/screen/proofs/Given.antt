@@ -1,26 +1,25 @@
 -- The numbers given, and a piece as single steps. Assumes nothing.
 use mathlib.Core.Path.{_≡_, refl, sym, ap, _∙_, subst, subst⁻¹}
-use mathlib.Core.Bool.{Bool, true, false, cond}
+use mathlib.Core.Bool.{true, false}
 use mathlib.Core.List.{List, [], _∷_, _++_}
-use mathlib.Core.Logic.{⊎-elim}
 use Prim.Native.Nat.{ℕ, suc, _≤_, _<_}
 use native.Mathlib.Omega.{arith}
 use native.Mathlib.Nat.{zero-lt-suc}
-use lib.Dec.{ltb}
 use lib.ListN.{length}
 use borrow.Author.Tests.{lt-ltb, le-ltb}
-use Rattle.laws.proofs.Computed.{apart, chosen}
-use Rattle.numbers.specs.Numbers.{toldOf}
+use Rattle.answers.specs.declared.Answer.{Answer}
+use Rattle.answers.specs.declared.Answer.the-variants.{Taken, TooLarge, Broken}
+use Rattle.answers.specs.Answers.{told}
+use Rattle.answers.proofs.Given.{answer-told}
 use Rattle.values.specs.Large.{Values, firstLarge}
 use Rattle.values.proofs.Found.{none-large, values-append}
 use Rattle.page.specs.declared.Screen.{Screen}
 use Rattle.page.specs.Ranges.{broken, InScreen}
 use Rattle.page.proofs.Stays.{unbroken}
-use Rattle.screen.specs.declared.Answer.the-variants.{Taken, TooLarge, Broken}
 use Rattle.screen.specs.declared.Stepped.{Stepped}
 use Rattle.screen.specs.declared.Ran.{Ran}
 use Rattle.screen.specs.Screens.{advanced, advancedBy}
-use Rattle.screen.specs.Calls.{told, stepsTo, stepped, runsTo, ran, runTold}
+use Rattle.screen.specs.Calls.{leftBy, answered, stepsTo, stepped, runsTo, ran, runTold}
 use Rattle.screen.specs.Claims.{singly}
 use Rattle.screen.proofs.Stays.{advanced-in}
 use Rattle.screen.proofs.Steps.{by-append}
@@ -29,32 +28,14 @@ use Rattle.screen.proofs.Answers.{ran-taken}
 -- ---- numbers
 
 -- what a run tells comes of its conditions
-told-by : (t u : Bool) (s x : Screen) (k : ℕ)
-    → told (cond t (runsTo s Broken) (cond u (runsTo s (TooLarge k)) (runsTo x Taken)) .answer) ≡ toldOf t u k
-told-by true u s x k = refl
-told-by false true s x k = refl
-told-by false false s x k = refl
-
 pub run-told : (s : Screen) (vs : List ℕ) → told (ran s vs .answer) ≡ runTold s vs
 unfolding ran
-run-told s vs = told-by (broken s) (ltb (firstLarge vs) (length vs)) s (advancedBy s vs) (firstLarge vs)
-
-large-told : (t : Bool) (s : Screen)
-    → told (cond t (stepsTo s Broken) (stepsTo s (TooLarge 0)) .answer) ≡ toldOf t true 0
-large-told true s = refl
-large-told false s = refl
-
-small-told : (t : Bool) (s x : Screen) → told (cond t (stepsTo s Broken) (stepsTo x Taken) .answer) ≡ toldOf t false 1
-small-told true s x = refl
-small-told false s x = refl
+run-told s vs = answer-told (broken s) (firstLarge vs) (length vs)
 
 -- a step tells what the run over its one value does
 pub step-told : (s : Screen) (b : ℕ) → told (stepped s b .answer) ≡ runTold s (b ∷ [])
-unfolding stepped firstLarge
-step-told s b =
-    ⊎-elim (λ (h : 127 < b). simp (lt-ltb 127 b h, le-ltb b 128 h) (large-told (broken s) s))
-    (λ (h : b ≤ 127). simp (le-ltb 127 b h, lt-ltb b 128 (omega (arith, h))) (small-told (broken s) s (advanced s b)))
-    (apart 127 b)
+unfolding stepped
+step-told s b = answer-told (broken s) (firstLarge (b ∷ [])) 1
 
 -- ---- refusals
 
@@ -63,8 +44,8 @@ unfolding stepped
 step-broken s b e = simp e
 
 pub step-large : (s : Screen) (b : ℕ) → broken s ≡ false → 127 < b → stepped s b ≡ stepsTo s (TooLarge 0)
-unfolding stepped
-step-large s b e h = simp (e, lt-ltb 127 b h)
+unfolding stepped firstLarge
+step-large s b e h = simp (e, le-ltb b 128 h)
 
 pub run-broken : (s : Screen) (vs : List ℕ) → broken s ≡ true → ran s vs ≡ runsTo s Broken
 unfolding ran
@@ -73,8 +54,8 @@ run-broken s vs e = simp e
 -- ---- steps
 
 pub step-taken : (s : Screen) (b : ℕ) → broken s ≡ false → b ≤ 127 → stepped s b ≡ stepsTo (advanced s b) Taken
-unfolding stepped
-step-taken s b e h = simp (e, le-ltb 127 b h)
+unfolding stepped firstLarge
+step-taken s b e h = simp (e, lt-ltb b 128 (omega (arith, h)))
 
 pub stepped-in : (s : Screen) → InScreen s → (b : ℕ) → b ≤ 127 → InScreen (stepped s b .screen)
 stepped-in s h b l =
@@ -109,9 +90,12 @@ ran-in s vs h v = subst⁻¹ (λ (r : Ran). InScreen (r .screen)) (run-taken s v
 -- no values leave a screen as it was, in range or not
 pub ran-none : (s : Screen) → ran s [] .screen ≡ s
 unfolding ran advancedBy
-ran-none s =
-    chosen (λ (r : Ran). r .screen ≡ s) (broken s) (λ i. refl)
-    (λ i. chosen (λ (r : Ran). r .screen ≡ s) (ltb (firstLarge []) 0) (λ l. refl) (λ l. refl))
+ran-none s = kept (answered s [])
+  where
+    kept : (a : Answer) → leftBy a s s ≡ s
+    kept Taken = refl
+    kept (TooLarge i) = refl
+    kept Broken = refl
 
 -- a run over some values and then others is the run over the first, then over the others
 pub run-parts : (s : Screen) (us vs : List ℕ) → InScreen s → Values us → Values vs

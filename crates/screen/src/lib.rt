@@ -10,17 +10,11 @@ mod drawing;
 mod pieces;
 mod turns;
 
+pub use answers::Answer;
+use answers::answer_to;
 use drawing::apply;
 use page::Screen;
 use pieces::advance;
-
-// What a call answers: the paper's 0, 2 and 5.
-pub enum Answer {
-    Taken,
-    // The lowest place of a value above 127, counted from 0.
-    TooLarge(usize),
-    Broken,
-}
 
 pub struct Stepped {
     pub screen: Screen,
@@ -37,44 +31,28 @@ pub fn step(screen: Screen, value: u8) -> Stepped
     ensures { λ r. ⌜ r ≡ stepped screen value ⌝ }
 {
     let broken = screen.is_broken();
-    if broken {
-        let answer = Answer::Broken;
+    let at = values::first_large(&[value]);
+    let answer = answer_to(broken, at, 1);
+    let Answer::Taken = answer else {
         return Stepped { screen, answer };
-    }
-    if 127 < value {
-        let answer = Answer::TooLarge(0);
-        return Stepped { screen, answer };
-    }
+    };
     let planned = planning::plan(screen.pen, value);
     let pen = planned.pen;
     let asked = planned.asked;
     let screen = apply(screen, pen, asked);
-    Stepped {
-        screen,
-        answer: Answer::Taken,
-    }
+    Stepped { screen, answer }
 }
 
 // A piece of values: all of them or, where the state is broken or a value is above 127, none.
 pub fn run(screen: Screen, values: &[u8]) -> Ran
     ensures { λ r. ⌜ r ≡ ran screen (now (values .entry)) ⌝ }
 {
-    if screen.is_broken() {
-        return Ran {
-            screen,
-            answer: Answer::Broken,
-        };
-    }
+    let broken = screen.is_broken();
     let at = values::first_large(values);
-    if at < values.len() {
-        return Ran {
-            screen,
-            answer: Answer::TooLarge(at),
-        };
-    }
+    let answer = answer_to(broken, at, values.len());
+    let Answer::Taken = answer else {
+        return Ran { screen, answer };
+    };
     let screen = advance(screen, values);
-    Ran {
-        screen,
-        answer: Answer::Taken,
-    }
+    Ran { screen, answer }
 }

@@ -21,7 +21,7 @@ ghost use Rattle.planning.specs.Reach.{writes, clears};
 ghost use Rattle.page.specs.declared.Screen.{Screen};
 ghost use Rattle.page.specs.Pages.{cellAt};
 ghost use Rattle.page.specs.Ranges.{InScreen};
-ghost use Rattle.screen.specs.declared.Answer.the-variants.{Taken};
+ghost use Rattle.answers.specs.declared.Answer.the-variants.{Taken};
 ghost use Rattle.screen.specs.Screens.{written, writtenTimes, advanced};
 ghost use Rattle.screen.specs.Calls.{stepsTo, stepped};
 ghost use Rattle.screen.specs.Claims.{onwards, Among, ended};

@@ -5,7 +5,7 @@ ghost use Prim.Native.Nat.{ℕ};
 ghost use Rattle.values.specs.Large.{Values};
 ghost use Rattle.page.specs.declared.Screen.{Screen};
 ghost use Rattle.page.specs.Ranges.{InScreen};
-ghost use Rattle.screen.specs.declared.Answer.the-variants.{Taken};
+ghost use Rattle.answers.specs.declared.Answer.the-variants.{Taken};
 ghost use Rattle.screen.specs.Calls.{runsTo, ran};
 ghost use Rattle.screen.specs.Claims.{singly};
 

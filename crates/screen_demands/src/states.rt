@@ -10,8 +10,9 @@ ghost use Rattle.page.specs.declared.Screen.{Screen};
 ghost use Rattle.page.specs.Pages.{freshScreen};
 ghost use Rattle.page.specs.Ranges.{broken, InScreen};
 ghost use Rattle.page.specs.Reading.{read, pointed, readNumber, cursorNumber};
-ghost use Rattle.screen.specs.declared.Answer.the-variants.{TooLarge, Broken};
-ghost use Rattle.screen.specs.Calls.{told, stepsTo, stepped, runsTo, ran, runTold};
+ghost use Rattle.answers.specs.declared.Answer.the-variants.{TooLarge, Broken};
+ghost use Rattle.answers.specs.Answers.{told};
+ghost use Rattle.screen.specs.Calls.{stepsTo, stepped, runsTo, ran, runTold};
 
 // A call's number, and the place that it names, come of the paper's conditions in their order: 5 for a state outside
 // its ranges, then 2 for a value above 127, at its lowest place, and else 0. A step is refused as the run over its one
