@@ -5,7 +5,7 @@ use Rattle.laws.proofs.Computed.{and-left, and-right, fails, holds, is-true}
 use Rattle.numbers.specs.Numbers.{toldOf}
 use Rattle.receiver.specs.States.{inRange as receiverInRange}
 use Rattle.receiver.specs.Runs.{byte, on, off, ask}
-use Rattle.links.specs.declared.Ear.the-variants.{Socket as fromSocket}
+use Rattle.ears.specs.declared.Ear.the-variants.{Socket as fromSocket}
 use Rattle.links.specs.declared.Answer.the-variants.{Taken, TooLarge, Broken}
 use Rattle.links.specs.States.{inRange as linksInRange}
 use Rattle.links.specs.Calls.{told}

@@ -8,7 +8,7 @@ use Rattle.sending.specs.declared.Bytes.{Bytes}
 use Rattle.sending.specs.declared.Sent.{Sent}
 use Rattle.sending.specs.Sending.{bytesOf}
 use Rattle.links.specs.declared.Links.{Links}
-use Rattle.links.specs.declared.Ear.the-variants.{Modem as modem}
+use Rattle.ears.specs.declared.Ear.the-variants.{Modem as modem}
 use Rattle.links.specs.Runs.{Call, value, obey, given, run}
 use Rattle.feeding.specs.declared.Outlet.{Outlet}
 use Rattle.feeding.specs.declared.Shares.{Shares}

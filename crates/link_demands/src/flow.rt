@@ -12,9 +12,10 @@ ghost use Rattle.hearing.specs.declared.Unfinished.the-variants.{Free};
 ghost use Rattle.hearing.specs.Hearing.{codesOf};
 ghost use Rattle.hearing.specs.Phrases.{Phrase, alone, AllProper, allValues, allFlowing, Phrased};
 ghost use Rattle.links.specs.declared.Links.{Links};
-ghost use Rattle.links.specs.declared.Ear.{Ear};
-ghost use Rattle.links.specs.declared.Ear.the-variants.{Modem as EarModem};
-ghost use Rattle.links.specs.States.{localLinks, nameOf, unfinished};
+ghost use Rattle.ears.specs.declared.Ear.{Ear};
+ghost use Rattle.ears.specs.declared.Ear.the-variants.{Modem as EarModem};
+ghost use Rattle.ears.specs.Ears.{nameOf};
+ghost use Rattle.links.specs.States.{localLinks, unfinished};
 ghost use Rattle.links.specs.Runs.{Call, key, value, obey, run, gotFrom, Throughout};
 ghost use Rattle.links.specs.Runs.{InRange, Says, PassedOn, freed, Swallowed};
 

@@ -17,9 +17,10 @@ ghost use Rattle.commands.specs.Commands.{Command, spelled, beginning, lastOf, 
 ghost use Rattle.commands.specs.Commands.{SpelledFor};
 ghost use Rattle.hearing.specs.Hearing.{codesOf};
 ghost use Rattle.links.specs.declared.Links.{Links};
-ghost use Rattle.links.specs.declared.Ear.{Ear};
-ghost use Rattle.links.specs.declared.Ear.the-variants.{Modem as EarModem, Socket as EarSocket};
-ghost use Rattle.links.specs.States.{nameOf, unfinished};
+ghost use Rattle.ears.specs.declared.Ear.{Ear};
+ghost use Rattle.ears.specs.declared.Ear.the-variants.{Modem as EarModem, Socket as EarSocket};
+ghost use Rattle.ears.specs.Ears.{nameOf};
+ghost use Rattle.links.specs.States.{unfinished};
 ghost use Rattle.links.specs.Runs.{Call, value, obey, run, Says, Swallowed, Answered};
 
 // PRO3 with 6/1 or 6/0, a receiver and a sender orders that link set or cleared, PRO2 with 6/2 and a receiver asks for

@@ -12,7 +12,8 @@ use Rattle.sending.specs.Sending.{partOf, FewIn}
 use Rattle.sending.proofs.Getting.{few-sent, few-silence}
 use Rattle.links.specs.declared.Links.{Links}
 use Rattle.links.specs.declared.Outcome.{Outcome}
-use Rattle.links.specs.States.{nameOf, unfinished, inRange}
+use Rattle.ears.specs.Ears.{nameOf}
+use Rattle.links.specs.States.{unfinished, inRange}
 use Rattle.links.specs.Calls.{choosing, taking, fromEar, fromKeyboard}
 use Rattle.links.specs.Runs.{Call, key, value, toLocal, toConnected, obey}
 use Rattle.links.proofs.Refusals.{small}

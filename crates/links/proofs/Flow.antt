@@ -16,11 +16,12 @@ use Rattle.hearing.proofs.Spelling.{plain, esc-held, paired}
 use Rattle.sending.specs.Sending.{obeyed, gets}
 use Rattle.sending.proofs.Getting.{pass-goes, pair-goes, table-after}
 use Rattle.links.specs.declared.Links.{Links}
-use Rattle.links.specs.declared.Ear.{Ear}
-use Rattle.links.specs.declared.Ear.the-variants.{Modem as modem, Socket as socket}
+use Rattle.ears.specs.declared.Ear.{Ear}
+use Rattle.ears.specs.declared.Ear.the-variants.{Modem as modem, Socket as socket}
 use Rattle.links.specs.declared.Outcome.{Outcome}
 use Rattle.links.specs.Calls.{taking, fromEar}
-use Rattle.links.specs.States.{nameOf, unfinished, left}
+use Rattle.ears.specs.Ears.{nameOf}
+use Rattle.links.specs.States.{unfinished, left}
 use Rattle.links.specs.Runs.{Call, key, value, run, InRange, Says, PassedOn, freed}
 use Rattle.links.proofs.Steps.{accepted, key-accepted}
 use Rattle.links.proofs.Ranges.{passed, run-kept}

@@ -17,10 +17,11 @@ use Rattle.hearing.specs.Hearing.{codesOf, inRange as sequenceInRange, heard}
 use Rattle.hearing.proofs.Ranges.{tested as codes-tested, passed as codes-passed, kept as codes-kept}
 use Rattle.sending.proofs.Getting.{still-none-itself}
 use Rattle.links.specs.declared.Links.{Links}
-use Rattle.links.specs.declared.Ear.{Ear}
-use Rattle.links.specs.declared.Ear.the-variants.{Modem as modem, Socket as socket}
+use Rattle.ears.specs.declared.Ear.{Ear}
+use Rattle.ears.specs.declared.Ear.the-variants.{Modem as modem, Socket as socket}
 use Rattle.links.specs.declared.Outcome.{Outcome}
-use Rattle.links.specs.States.{nameOf, unfinished, starting, localLinks, connectedLinks, inRange}
+use Rattle.ears.specs.Ears.{nameOf}
+use Rattle.links.specs.States.{unfinished, starting, localLinks, connectedLinks, inRange}
 use Rattle.links.specs.Calls.{withTable, choosing, taking, fromEar}
 use Rattle.links.specs.Runs.{Call, key, value, toLocal, toConnected, obey, run, InRange}
 use Rattle.links.proofs.Steps.{keys-change-nothing}

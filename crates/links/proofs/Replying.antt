@@ -24,9 +24,10 @@ use Rattle.sending.specs.declared.Sent.{Sent}
 use Rattle.sending.specs.Sending.{obeyed, gets}
 use Rattle.sending.proofs.Getting.{gets-nothing, nothing-sent, link-replied, ask-replied, table-after, pairs-after}
 use Rattle.links.specs.declared.Links.{Links}
-use Rattle.links.specs.declared.Ear.{Ear}
+use Rattle.ears.specs.declared.Ear.{Ear}
 use Rattle.links.specs.declared.Outcome.{Outcome}
-use Rattle.links.specs.States.{nameOf, unfinished, inRange}
+use Rattle.ears.specs.Ears.{nameOf}
+use Rattle.links.specs.States.{unfinished, inRange}
 use Rattle.links.specs.Calls.{taking, fromEar}
 use Rattle.links.specs.Runs.{other, Call, value, obey, run, Says, Swallowed, Answered}
 use Rattle.links.proofs.Steps.{accepted, answer-heard, table-heard, own-heard, other-heard, sent-heard}

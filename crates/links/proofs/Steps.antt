@@ -6,18 +6,20 @@ use native.Mathlib.Omega.{arith}
 use lib.Dec.{ltb}
 use borrow.Author.Tests.{le-ltb}
 use Rattle.laws.proofs.Computed.{chosen}
-use Rattle.wiring.specs.declared.Module.the-variants.{Keyboard, Modem, Socket}
+use Rattle.wiring.specs.declared.Module.the-variants.{Keyboard}
 use Rattle.wiring.specs.declared.Table.{Table}
 use Rattle.commands.specs.declared.Order.the-variants.{Pass}
 use Rattle.hearing.specs.declared.Heard.{Heard}
 use Rattle.hearing.specs.Hearing.{heard}
 use Rattle.sending.specs.Sending.{silence, obeyed}
 use Rattle.links.specs.declared.Links.{Links}
-use Rattle.links.specs.declared.Ear.{Ear}
-use Rattle.links.specs.declared.Ear.the-variants.{Modem as modem, Socket as socket}
+use Rattle.ears.specs.declared.Ear.{Ear}
+use Rattle.ears.specs.declared.Ear.the-variants.{Modem as modem, Socket as socket}
 use Rattle.links.specs.declared.Answer.the-variants.{Taken}
 use Rattle.links.specs.declared.Outcome.{Outcome}
-use Rattle.links.specs.States.{nameOf, unfinished, inRange}
+use Rattle.ears.specs.Ears.{nameOf}
+use Rattle.ears.proofs.Apart.{owns}
+use Rattle.links.specs.States.{unfinished, inRange}
 use Rattle.links.specs.Calls.{taken, withTable, choosing, taking, fromEar, fromKeyboard}
 use Rattle.links.specs.Runs.{other, key, obey}
 
@@ -49,8 +51,8 @@ table-heard socket l h = refl
 
 pub own-heard : (e : Ear) (l : Links) (h : Heard) → unfinished (taking l e h .next) e ≡ h .unfinished
 unfolding taking
-own-heard modem l h = refl
-own-heard socket l h = refl
+own-heard modem l h = owns (h .unfinished) (l .socket) .0
+own-heard socket l h = owns (l .modem) (h .unfinished) .1
 
 pub other-heard : (e : Ear) (l : Links) (h : Heard) → unfinished (taking l e h .next) (other e) ≡ unfinished l (other e)
 unfolding taking
@@ -60,10 +62,6 @@ other-heard socket l h = refl
 pub sent-heard : (e : Ear) (l : Links) (h : Heard) → taking l e h .sent ≡ obeyed (l .table) (nameOf e) (h .order) .sent
 unfolding taking
 sent-heard e l h = refl
-
--- each ear is the module of its name
-pub names : (nameOf modem ≡ Modem) × (nameOf socket ≡ Socket)
-names = (refl, refl)
 
 -- ---- keys
 

@@ -23,10 +23,11 @@ use Rattle.sending.specs.declared.Sent.{Sent}
 use Rattle.sending.specs.Sending.{obeyed, gets}
 use Rattle.sending.proofs.Getting.{gets-nothing, nothing-sent, pass-goes, pair-goes, link-replied, ask-replied}
 use Rattle.links.specs.declared.Links.{Links}
-use Rattle.links.specs.declared.Ear.{Ear}
-use Rattle.links.specs.declared.Ear.the-variants.{Modem as modem, Socket as socket}
+use Rattle.ears.specs.declared.Ear.{Ear}
+use Rattle.ears.specs.declared.Ear.the-variants.{Modem as modem, Socket as socket}
 use Rattle.links.specs.declared.Outcome.{Outcome}
-use Rattle.links.specs.States.{localLinks, nameOf, unfinished}
+use Rattle.ears.specs.Ears.{nameOf}
+use Rattle.links.specs.States.{localLinks, unfinished}
 use Rattle.links.specs.Runs.{Call, key, value, toLocal, toConnected, obey, given, isFrom, saidAt, said, gotFrom}
 use Rattle.links.specs.Runs.{Throughout, InRange, Says}
 use Rattle.links.proofs.Steps.{accepted, sent-heard}

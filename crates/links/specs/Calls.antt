@@ -14,12 +14,13 @@ use Rattle.hearing.specs.Hearing.{heard}
 use Rattle.sending.specs.declared.Sent.{Sent}
 use Rattle.sending.specs.Sending.{silence, obeyed}
 use Rattle.links.specs.declared.Links.{Links}
-use Rattle.links.specs.declared.Ear.{Ear}
-use Rattle.links.specs.declared.Ear.the-variants.{Modem as modem, Socket as socket}
+use Rattle.ears.specs.declared.Ear.{Ear}
+use Rattle.ears.specs.declared.Ear.the-variants.{Modem as modem, Socket as socket}
 use Rattle.links.specs.declared.Answer.{Answer}
 use Rattle.links.specs.declared.Answer.the-variants.{Taken, TooLarge, Broken}
 use Rattle.links.specs.declared.Outcome.{Outcome}
-use Rattle.links.specs.States.{nameOf, unfinished, left, inRange}
+use Rattle.ears.specs.Ears.{nameOf}
+use Rattle.links.specs.States.{unfinished, left, inRange}
 
 -- the number of each answer, and what it names: a single value stands at place 0
 abbrev pub told : Answer → Told

@@ -14,11 +14,12 @@ use Rattle.hearing.specs.declared.Unfinished.the-variants.{Free}
 use Rattle.hearing.specs.Hearing.{codesOf}
 use Rattle.sending.specs.Sending.{gets}
 use Rattle.links.specs.declared.Links.{Links}
-use Rattle.links.specs.declared.Ear.{Ear}
-use Rattle.links.specs.declared.Ear.the-variants.{Modem as modem, Socket as socket}
+use Rattle.ears.specs.declared.Ear.{Ear}
+use Rattle.ears.specs.declared.Ear.the-variants.{Modem as modem, Socket as socket}
 use Rattle.links.specs.declared.Answer.the-variants.{Taken}
 use Rattle.links.specs.declared.Outcome.{Outcome}
-use Rattle.links.specs.States.{nameOf, unfinished, left, inRange}
+use Rattle.ears.specs.Ears.{nameOf}
+use Rattle.links.specs.States.{unfinished, left, inRange}
 use Rattle.links.specs.Calls.{withLocal, withConnected, fromKeyboard, fromEar}
 
 abbrev pub other : Ear → Ear

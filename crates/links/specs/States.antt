@@ -1,15 +1,14 @@
 -- The state of the links (01, "Links and commands"). Assumes nothing.
 use mathlib.Core.Bool.{Bool, _&&_, not}
-use Rattle.wiring.specs.declared.Module.{Module}
-use Rattle.wiring.specs.declared.Module.the-variants.{Modem, Socket}
 use Rattle.wiring.specs.declared.Table.{Table}
 use Rattle.wiring.specs.Tables.{selfLinked, localTable, connectedTable}
 use Rattle.hearing.specs.declared.Unfinished.{Unfinished}
 use Rattle.hearing.specs.declared.Unfinished.the-variants.{Free}
 use Rattle.hearing.specs.Hearing.{inRange as sequenceInRange}
 use Rattle.links.specs.declared.Links.{Links}
-use Rattle.links.specs.declared.Ear.{Ear}
-use Rattle.links.specs.declared.Ear.the-variants.{Modem as modem, Socket as socket}
+use Rattle.ears.specs.declared.Ear.{Ear}
+use Rattle.ears.specs.declared.Ear.the-variants.{Modem as modem, Socket as socket}
+use Rattle.ears.specs.Ears.{ownOf}
 
 -- a table, and nothing unfinished
 abbrev pub starting : Table → Links
@@ -21,15 +20,9 @@ localLinks = starting localTable
 abbrev pub connectedLinks : Links
 connectedLinks = starting connectedTable
 
--- "Commands are heard from modem and socket only"
-abbrev pub nameOf : Ear → Module
-nameOf modem = Modem
-nameOf socket = Socket
-
--- "each of the two has its own unfinished sequence"
+-- what is unfinished from an ear
 abbrev pub unfinished : Links → Ear → Unfinished
-unfinished l modem = l .modem
-unfinished l socket = l .socket
+unfinished l e = ownOf e (l .modem) (l .socket)
 
 -- with this table, and this unfinished from an ear
 abbrev pub left : Links → Ear → Table → Unfinished → Links

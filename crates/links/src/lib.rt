@@ -7,13 +7,11 @@
 // a whole run is; proofs/ holds their laws.
 ghost use mathlib.Core.Path.{_≡_};
 ghost use Rattle.sending.specs.Sending.{silence};
-ghost use Rattle.links.specs.States.{localLinks, connectedLinks, inRange};
+ghost use Rattle.links.specs.States.{localLinks, connectedLinks, left, inRange};
 ghost use Rattle.links.specs.Calls.{giving, unlessRefused, choosing, withLocal, withConnected};
 ghost use Rattle.links.specs.Calls.{taking, fromEar, fromKeyboard, fromModem, fromSocket};
-
-mod ears;
-
 use commands::Order;
+pub use ears::Ear;
 use hearing::Heard;
 use hearing::Unfinished;
 use sending::Sent;
@@ -25,12 +23,6 @@ pub struct Links {
     // What is unfinished from each ear.
     pub modem: Unfinished,
     pub socket: Unfinished,
-}
-
-// The two modules that are heard for commands.
-pub enum Ear {
-    Modem,
-    Socket,
 }
 
 // What a call answers: the paper's 0, 2 and 5.
@@ -153,6 +145,26 @@ impl Links {
         self.unless_refused(value, outcome)
     }
 
+    // The state after what an ear said: the other ear's sequence stays.
+    fn left(self, ear: Ear, table: Table, unfinished: Unfinished) -> Links
+        ensures { λ r. ⌜ r ≡ left self ear table «unfinished» ⌝ }
+    {
+        let modem = self.modem;
+        let socket = self.socket;
+        match ear {
+            Ear::Modem => Links {
+                table,
+                modem: unfinished,
+                socket,
+            },
+            Ear::Socket => Links {
+                table,
+                modem,
+                socket: unfinished,
+            },
+        }
+    }
+
     // What was heard from an ear: its own sequence follows, and its order is obeyed.
     fn take(self, ear: Ear, heard: Heard) -> Outcome
         ensures { λ r. ⌜ r ≡ taking self ear heard ⌝ }
@@ -172,7 +184,9 @@ impl Links {
     fn hear(self, ear: Ear, value: u8) -> Outcome
         ensures { λ r. ⌜ r ≡ fromEar self ear value ⌝ }
     {
-        let outcome = self.take(ear, hearing::hear(self.unfinished(ear), value));
+        let modem = self.modem;
+        let socket = self.socket;
+        let outcome = self.take(ear, hearing::hear(ear.own(modem, socket), value));
         self.unless_refused(value, outcome)
     }
 

@@ -4,8 +4,8 @@ use borrow.Author.Needs.{needs}
 use Rattle.links.proofs.Links.hear.Statement.{statement}
 use Rattle.links.proofs.Links.hear.Tie as tie
 
-unfinished-requires : tie.Need-unfinished-requires
-unfinished-requires c κs = search needs
+own-requires : tie.Need-own-requires
+own-requires c κs = search needs
 
 hear-requires : tie.Need-hear-requires
 hear-requires c κs = search needs
@@ -23,10 +23,10 @@ returns c =
       c .unless-refused .ensures,
       c .before .take .ensures,
       c .before .before .hear .ensures,
-      c .before .before .before .unfinished .ensures,
+      c .before .before .before .own .ensures,
     )
 
 pub hear-spec : {M : Type 1} → statement M
 hear-spec =
     tie.close
-    (tie.spec unfinished-requires hear-requires take-requires unless-refused-requires returns)
+    (tie.spec own-requires hear-requires take-requires unless-refused-requires returns)

@@ -1,0 +1,14 @@
+-- The two ears are told apart. Assumes nothing.
+use mathlib.Core.Path.{_≡_, refl}
+use Rattle.wiring.specs.declared.Module.the-variants.{Modem, Socket}
+use Rattle.hearing.specs.declared.Unfinished.{Unfinished}
+use Rattle.ears.specs.declared.Ear.the-variants.{Modem as modem, Socket as socket}
+use Rattle.ears.specs.Ears.{nameOf, ownOf}
+
+-- each is the module of its name
+pub names : (nameOf modem ≡ Modem) × (nameOf socket ≡ Socket)
+names = (refl, refl)
+
+-- and goes on with what is unfinished from that module
+pub owns : (m s : Unfinished) → (ownOf modem m s ≡ m) × (ownOf socket m s ≡ s)
+owns m s = (refl, refl)
