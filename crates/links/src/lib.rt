@@ -2,9 +2,9 @@
 //
 // Keyboard, modem and socket hand in one value at a time, and the host chooses a table; every call takes any state and
 // any value, and hands back the next state, the answer, and what each of the four receivers gets. A broken state, or a
-// value above 127, is refused and changes nothing. `wiring` has the table, `hearing` what a value from modem or socket
-// means, `sending` what that does. specs/States says what a state is, specs/Calls what each call does, specs/Runs what
-// a whole run is; proofs/ holds their laws.
+// value above 127, is refused and changes nothing. `wiring` has the table, `ears` the two modules that are heard for
+// commands, `hearing` what a value from one of them means, `sending` what that does. specs/States says what a state is,
+// specs/Calls what each call does, specs/Runs what a whole run is; proofs/ holds their laws.
 ghost use mathlib.Core.Path.{_≡_};
 ghost use Rattle.sending.specs.Sending.{silence};
 ghost use Rattle.links.specs.States.{localLinks, connectedLinks, left, inRange};
