@@ -1,3 +1,4 @@
 pub mod Spelling
 pub mod Flowing
 pub mod Ranges
+pub mod Written

@@ -1,2 +1,3 @@
 pub mod Pairs
 pub mod Selves
+pub mod Written

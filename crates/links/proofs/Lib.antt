@@ -5,5 +5,7 @@ pub mod Few
 pub mod Own
 pub mod Flow
 pub mod Replying
+pub mod Echoes
 pub mod Choosing
 pub mod Through
+pub mod Computed

@@ -20,8 +20,9 @@ use Rattle.links.specs.declared.Outcome.{Outcome}
 use Rattle.ears.specs.Ears.{nameOf}
 use Rattle.ears.proofs.Apart.{owns}
 use Rattle.links.specs.States.{unfinished, inRange}
-use Rattle.links.specs.Calls.{taken, withTable, choosing, taking, fromEar, fromKeyboard}
-use Rattle.links.specs.Runs.{other, key, obey}
+use Rattle.links.specs.Calls.{taken, withTable, choosing, withLocal, withConnected, taking, fromEar}
+use Rattle.links.specs.Calls.{fromKeyboard, fromModem, fromSocket}
+use Rattle.links.specs.Runs.{other, key, value, toLocal, toConnected, obey}
 
 pub accepted : (e : Ear) (l : Links) (v : ℕ) → inRange l ≡ true → v < 128
     → fromEar l e v ≡ taking l e (heard (unfinished l e) v)
@@ -70,3 +71,13 @@ unfolding fromKeyboard
 keys-change-nothing l v =
     chosen (λ (o : Outcome). o .next ≡ l) (inRange l)
     (λ i. chosen (λ (o : Outcome). o .next ≡ l) (ltb 127 v) (λ h. refl) (λ h. refl)) (λ i. refl)
+
+-- ---- the calls of a run are the public ones
+
+pub public-values : (l : Links) (v : ℕ)
+    → (obey (key v) l ≡ fromKeyboard l v) × (obey (value modem v) l ≡ fromModem l v)
+    × (obey (value socket v) l ≡ fromSocket l v)
+public-values l v = (refl, refl, refl)
+
+pub public-choices : (l : Links) → (obey toLocal l ≡ withLocal l) × (obey toConnected l ≡ withConnected l)
+public-choices l = (refl, refl)

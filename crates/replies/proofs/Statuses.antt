@@ -3,15 +3,13 @@
 use mathlib.Core.Path.{_≡_, refl}
 use mathlib.Core.Bool.{Bool, true, false, cond}
 use mathlib.Core.List.{[], _∷_}
-use Prim.Native.Nat.{ℕ, _/_, _%_, _≤_}
+use Prim.Native.Nat.{ℕ, zero, suc, _/_, _%_, _≤_}
 use native.Mathlib.Omega.{arith}
 use lib.ListN.{length}
 use Rattle.values.specs.Large.{Values}
-use Rattle.values.proofs.Found.{values-none, values-cons}
 use Rattle.wiring.specs.declared.Module.{Module}
 use Rattle.wiring.specs.declared.Module.the-variants.{Screen, Keyboard, Modem, Socket}
 use Rattle.wiring.specs.declared.Table.{Table}
-use Rattle.wiring.specs.Modules.{receiverCode}
 use Rattle.wiring.specs.Tables.{row, localTable, connectedTable}
 use Rattle.wiring.proofs.Small.{receiver-small}
 use Rattle.replies.specs.Replies.{shown, columnOf, weighed, summed, statusOf, replyOf, statusesOf, weightOf}
@@ -41,14 +39,12 @@ reply-length t r = refl
 
 pub reply-small : (t : Table) (receiver : Module) → Values (replyOf t receiver)
 unfolding replyOf
-reply-small t r =
-    let code = receiverCode r in
-    let status = statusOf t r in
-    values-cons 27 (59 ∷ 99 ∷ code ∷ status ∷ []) (omega arith)
-    (values-cons 59 (99 ∷ code ∷ status ∷ []) (omega arith)
-    (values-cons 99 (code ∷ status ∷ []) (omega arith)
-    (values-cons code (status ∷ []) (receiver-small r)
-    (values-cons status [] (omega (arith, status-top t r)) values-none))))
+reply-small t r zero l = omega arith
+reply-small t r (suc zero) l = omega arith
+reply-small t r (suc (suc zero)) l = omega arith
+reply-small t r (suc (suc (suc zero))) l = receiver-small r
+reply-small t r (suc (suc (suc (suc zero)))) l = omega (arith, status-top t r)
+reply-small t r (suc (suc (suc (suc (suc i))))) l = absurd (omega (arith, l))
 
 -- ---- its bits
 

@@ -1,1 +1,3 @@
 pub mod Getting
+pub mod Echoes
+pub mod Written

@@ -1,2 +1,3 @@
 pub mod Selves
 pub mod Small
+pub mod Written
