@@ -86,13 +86,6 @@ spelled-for (pro3 x y z) =
     (λ e. chosen (λ (o : Order). SpelledFor o (pro3 x y z)) (eqb x (linkCode false))
     (λ f. linked x y z false (eqb-true x (linkCode false) f)) (λ f. tt))
 
--- ---- a reply is no command's
-
--- «Le Protocole filtre toutes les séquences d'acquittement qu'il reçoit en écho» (001, part 2, chapter 6, section 3.5):
--- PRO3 with 6/3 orders nothing, whatever follows
-pub reply-ordered : (x y : ℕ) → ordered (pro3 99 x y) ≡ Nothing
-reply-ordered x y = refl
-
 -- ---- nothing of a command is passed on
 
 pub small-ordered : (c : Command) → SmallOrder (ordered c)

@@ -1,2 +1,3 @@
-pub mod Known
+pub mod Echoes
 pub mod Written
+pub mod Known

@@ -7,13 +7,20 @@ use Rattle.wiring.specs.declared.Module.the-variants.{Screen, Keyboard, Modem, 
 use Rattle.commands.specs.declared.Order.{Order}
 use Rattle.commands.specs.declared.Order.the-variants.{Nothing, Pass, Pair, Link, Ask}
 use Rattle.hearing.specs.declared.Unfinished.{Unfinished}
-use Rattle.hearing.specs.declared.Unfinished.the-variants.{Free}
-use Rattle.hearing.specs.Hearing.{codesOf, heard, leftAfter}
+use Rattle.hearing.specs.declared.Unfinished.the-variants.{Free, Pro2With, Pro3With, Pro3Both}
+use Rattle.hearing.specs.Hearing.{codesOf, inRange, heard, leftAfter}
 
 -- the order of each value
 abbrev pub ordersOf : Unfinished → List ℕ → List Order
 ordersOf u [] = []
 ordersOf u (v ∷ vs) = heard u v .order ∷ ordersOf (heard u v .unfinished) vs
+
+-- ESC with its next code: 3/8, 3/C, and ESC, behind which 3/9 is a value by itself
+pub pairs-written :
+    ordersOf Free (27 ∷ 56 ∷ 27 ∷ 60 ∷ 27 ∷ 27 ∷ 57 ∷ [])
+    ≡ Nothing ∷ Pair 56 ∷ Nothing ∷ Pair 60 ∷ Nothing ∷ Pair 27 ∷ Pass 57 ∷ []
+unfolding heard
+pairs-written = refl
 
 -- ESC, 3/A, 6/2, 5/8; ESC, 3/B, 6/1, 5/8, 5/1; ESC, 3/B, 6/0, 5/A, 5/3
 pub commands-written :
@@ -33,13 +40,6 @@ pub counts-written :
 unfolding heard
 counts-written = refl
 
--- ESC with its next code: 3/8, 3/C, and ESC, behind which 3/9 is a value by itself
-pub pairs-written :
-    ordersOf Free (27 ∷ 56 ∷ 27 ∷ 60 ∷ 27 ∷ 27 ∷ 57 ∷ [])
-    ≡ Nothing ∷ Pair 56 ∷ Nothing ∷ Pair 60 ∷ Nothing ∷ Pair 27 ∷ Pass 57 ∷ []
-unfolding heard
-pairs-written = refl
-
 -- what is unfinished
 pub unfinished-written :
     map (λ (vs : List ℕ). codesOf (leftAfter Free vs))
@@ -47,3 +47,11 @@ pub unfinished-written :
     ≡ [] ∷ (27 ∷ []) ∷ (27 ∷ 57 ∷ []) ∷ (27 ∷ 58 ∷ 98 ∷ []) ∷ (27 ∷ 59 ∷ 97 ∷ []) ∷ (27 ∷ 59 ∷ 97 ∷ 88 ∷ []) ∷ []
 unfolding heard
 unfinished-written = refl
+
+-- "each at most 127"
+pub ranges-written :
+    map inRange
+    (Pro2With 127 ∷ Pro2With 128 ∷ Pro3With 127 ∷ Pro3With 128 ∷ Pro3Both 127 127 ∷ Pro3Both 128 0 ∷ Pro3Both 0 128 ∷ [])
+    ≡ true ∷ false ∷ true ∷ false ∷ true ∷ false ∷ false ∷ []
+unfolding inRange
+ranges-written = refl

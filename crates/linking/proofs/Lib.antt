@@ -1,3 +1,3 @@
+pub mod Written
 pub mod Pairs
 pub mod Selves
-pub mod Written

@@ -5,7 +5,7 @@ use mathlib.Core.List.{[], _∷_}
 use Rattle.wiring.specs.declared.Module.the-variants.{Screen, Keyboard, Modem, Socket}
 use Rattle.wiring.specs.Tables.{localTable, connectedTable}
 use Rattle.wiring.specs.Reading.{allReached}
-use Rattle.commands.specs.declared.Order.the-variants.{Link, Ask}
+use Rattle.commands.specs.declared.Order.the-variants.{Link}
 use Rattle.linking.specs.Linking.{linked, tableAfter}
 
 -- keyboard to screen is set
@@ -15,10 +15,10 @@ pub set-written :
 unfolding linked
 set-written = refl
 
--- socket to modem is cleared
+-- modem to screen is cleared
 pub cleared-written :
-    allReached (tableAfter connectedTable (Link Modem Socket false))
-    ≡ [] ∷ (Modem ∷ []) ∷ (Screen ∷ Socket ∷ []) ∷ [] ∷ []
+    allReached (tableAfter connectedTable (Link Screen Modem false))
+    ≡ [] ∷ (Modem ∷ []) ∷ (Socket ∷ []) ∷ (Modem ∷ []) ∷ []
 unfolding linked
 cleared-written = refl
 

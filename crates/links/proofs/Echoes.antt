@@ -14,7 +14,7 @@ use Rattle.replies.specs.Replies.{statusOf, replyOf}
 use Rattle.replies.proofs.Statuses.{reply-small}
 use Rattle.commands.specs.declared.Order.the-variants.{Nothing}
 use Rattle.commands.specs.Commands.{pro3, spelled}
-use Rattle.commands.proofs.Known.{reply-ordered}
+use Rattle.commands.proofs.Echoes.{reply-ordered}
 use Rattle.hearing.specs.declared.Unfinished.{Unfinished}
 use Rattle.hearing.specs.declared.Unfinished.the-variants.{Free}
 use Rattle.hearing.specs.Hearing.{heard, leftAfter}

@@ -1,3 +1,4 @@
+pub mod Computed
 pub mod Steps
 pub mod Ranges
 pub mod Refusals
@@ -8,4 +9,3 @@ pub mod Replying
 pub mod Echoes
 pub mod Choosing
 pub mod Through
-pub mod Computed

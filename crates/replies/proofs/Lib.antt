@@ -1,2 +1,2 @@
-pub mod Statuses
 pub mod Written
+pub mod Statuses

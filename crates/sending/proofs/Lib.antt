@@ -1,3 +1,3 @@
+pub mod Written
 pub mod Getting
 pub mod Echoes
-pub mod Written

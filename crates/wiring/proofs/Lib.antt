@@ -1,3 +1,3 @@
+pub mod Written
 pub mod Selves
 pub mod Small
-pub mod Written

@@ -1,5 +1,5 @@
 -- The theorem is proved where its words are. Assumes nothing.
-use Rattle.commands.proofs.Known.{reply-ordered}
+use Rattle.commands.proofs.Echoes.{reply-ordered}
 use Rattle.sending.proofs.Echoes.{reply-spelled}
 use Rattle.link_demands.proofs.replying.a_reply_is_a_command_that_orders_nothing.Statement.{statement}
 use Rattle.link_demands.proofs.replying.a_reply_is_a_command_that_orders_nothing.Tie as tie
