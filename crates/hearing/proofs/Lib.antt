@@ -1,3 +1,4 @@
+pub mod Escapes
 pub mod Written
 pub mod Spelling
 pub mod Flowing

@@ -4,23 +4,10 @@ use mathlib.Core.Bool.{true, false}
 use mathlib.Core.List.{List, [], _∷_, map}
 use Prim.Native.Nat.{ℕ}
 use Rattle.wiring.specs.declared.Module.the-variants.{Screen, Keyboard, Modem, Socket}
-use Rattle.commands.specs.declared.Order.{Order}
-use Rattle.commands.specs.declared.Order.the-variants.{Nothing, Pass, Pair, Link, Ask}
-use Rattle.hearing.specs.declared.Unfinished.{Unfinished}
+use Rattle.commands.specs.declared.Order.the-variants.{Nothing, Pass, Link, Ask}
 use Rattle.hearing.specs.declared.Unfinished.the-variants.{Free, Pro2With, Pro3With, Pro3Both}
 use Rattle.hearing.specs.Hearing.{codesOf, inRange, heard, leftAfter}
-
--- the order of each value
-abbrev pub ordersOf : Unfinished → List ℕ → List Order
-ordersOf u [] = []
-ordersOf u (v ∷ vs) = heard u v .order ∷ ordersOf (heard u v .unfinished) vs
-
--- ESC with its next code: 3/8, 3/C, and ESC, behind which 3/9 is a value by itself
-pub pairs-written :
-    ordersOf Free (27 ∷ 56 ∷ 27 ∷ 60 ∷ 27 ∷ 27 ∷ 57 ∷ [])
-    ≡ Nothing ∷ Pair 56 ∷ Nothing ∷ Pair 60 ∷ Nothing ∷ Pair 27 ∷ Pass 57 ∷ []
-unfolding heard
-pairs-written = refl
+use Rattle.hearing.proofs.Escapes.{ordersOf}
 
 -- ESC, 3/A, 6/2, 5/8; ESC, 3/B, 6/1, 5/8, 5/1; ESC, 3/B, 6/0, 5/A, 5/3
 pub commands-written :
