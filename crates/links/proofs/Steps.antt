@@ -1,11 +1,10 @@
 -- What one call does where it is not refused. Assumes nothing.
 use mathlib.Core.Path.{_≡_, refl}
-use mathlib.Core.Bool.{true}
+use mathlib.Core.Bool.{Bool, true, false}
 use Prim.Native.Nat.{ℕ, _<_}
 use native.Mathlib.Omega.{arith}
 use lib.Dec.{ltb}
 use borrow.Author.Tests.{le-ltb}
-use Rattle.laws.proofs.Computed.{chosen}
 use Rattle.wiring.specs.declared.Module.the-variants.{Keyboard}
 use Rattle.wiring.specs.declared.Table.{Table}
 use Rattle.commands.specs.declared.Order.the-variants.{Pass}
@@ -68,9 +67,13 @@ sent-heard e l h = refl
 
 pub keys-change-nothing : (l : Links) (v : ℕ) → obey (key v) l .next ≡ l
 unfolding fromKeyboard
-keys-change-nothing l v =
-    chosen (λ (o : Outcome). o .next ≡ l) (inRange l)
-    (λ i. chosen (λ (o : Outcome). o .next ≡ l) (ltb 127 v) (λ h. refl) (λ h. refl)) (λ i. refl)
+keys-change-nothing l v = go (inRange l) (ltb 127 v) refl refl
+  where
+    go : (i t : Bool) → inRange l ≡ i → ltb 127 v ≡ t → fromKeyboard l v .next ≡ l
+    go true true e f = simp (e, f)
+    go true false e f = simp (e, f)
+    go false true e f = simp (e, f)
+    go false false e f = simp (e, f)
 
 -- ---- the calls of a run are the public ones
 
