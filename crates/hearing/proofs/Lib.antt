@@ -1,3 +1,4 @@
+pub mod Codes
 pub mod Escapes
 pub mod Written
 pub mod Spelling

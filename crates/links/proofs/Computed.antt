@@ -37,7 +37,7 @@ on-pairs = (refl, (refl, (refl, (refl, (refl, tt)))))
 
 on-apart : EachHolds apart
 unfolding selfLinked statusOf replyOf heard sequenceInRange linked obeyed inRange choosing taking fromEar fromKeyboard
-on-apart = (refl, (refl, (refl, (refl, tt))))
+on-apart = (refl, (refl, (refl, (refl, (refl, (refl, tt))))))
 
 on-keys : EachHolds typed
 unfolding selfLinked statusOf replyOf heard sequenceInRange linked obeyed inRange choosing taking fromEar fromKeyboard

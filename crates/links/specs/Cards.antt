@@ -8,7 +8,8 @@ use lib.ListN.{take, replicate}
 use Rattle.wiring.specs.declared.Module.{Module}
 use Rattle.wiring.specs.declared.Module.the-variants.{Screen, Keyboard, Modem, Socket}
 use Rattle.wiring.specs.Reading.{allReached}
-use Rattle.hearing.specs.declared.Unfinished.the-variants.{Free, Escape, Pro2With, Pro3Both}
+use Rattle.hearing.specs.declared.Unfinished.the-variants.{Free, Escape, Pro1, Pro2, Pro2With}
+use Rattle.hearing.specs.declared.Unfinished.the-variants.{Pro3, Pro3With, Pro3Both}
 use Rattle.hearing.specs.Hearing.{codesOf}
 use Rattle.sending.specs.declared.Bytes.{Bytes}
 use Rattle.sending.specs.declared.Sent.{Sent}
@@ -246,6 +247,11 @@ apart =
     ∷ card (record { table = localLinks .table; modem = Pro3Both 97 88; socket = Escape })
     (socket (65 ∷ []) ++ modem (81 ∷ [])) (zeros 2) (27 ∷ 65 ∷ []) [] (27 ∷ 59 ∷ 99 ∷ 88 ∷ 79 ∷ []) []
     ([] ∷ (Screen ∷ Modem ∷ Socket ∷ []) ∷ (Screen ∷ []) ∷ (Screen ∷ []) ∷ []) none
+    ∷ card (record { table = localLinks .table; modem = Pro1; socket = Pro2 })
+    (modem (98 ∷ 65 ∷ []) ++ socket (98 ∷ 91 ∷ [])) (zeros 4) (65 ∷ []) [] [] (27 ∷ 59 ∷ 99 ∷ 91 ∷ 74 ∷ []) asLocal none
+    ∷ card (record { table = connectedLinks .table; modem = Pro3; socket = Pro3With 96 })
+    (modem (97 ∷ 88 ∷ 81 ∷ []) ++ socket (90 ∷ 81 ∷ [])) (zeros 5) [] [] (27 ∷ 59 ∷ 99 ∷ 88 ∷ 71 ∷ [])
+    (27 ∷ 59 ∷ 99 ∷ 90 ∷ 76 ∷ []) ([] ∷ (Screen ∷ []) ∷ (Screen ∷ Socket ∷ []) ∷ (Modem ∷ []) ∷ []) none
     ∷ []
 
 -- ---- "Commands are heard from modem and socket only"
