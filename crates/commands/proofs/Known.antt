@@ -1,6 +1,6 @@
 -- A link or ask command orders just that, and every other command nothing. Assumes nothing.
 use mathlib.Core.Path.{_≡_, refl, ap, ap₂, _∙_}
-use mathlib.Core.Bool.{Bool, true, false, cond}
+use mathlib.Core.Bool.{Bool, true, false}
 use mathlib.Core.List.{[], _∷_, _++_}
 use Prim.Native.Nat.{ℕ}
 use lib.Dec.{eqb}
@@ -14,7 +14,8 @@ use Rattle.commands.specs.declared.Named.the-variants.{Is, Nobody}
 use Rattle.commands.specs.declared.Order.{Order}
 use Rattle.commands.specs.declared.Order.the-variants.{Nothing, Pass, Pair, Link, Ask}
 use Rattle.commands.specs.Commands.{Command, pro1, pro2, pro3, spelled, beginning, lastOf}
-use Rattle.commands.specs.Commands.{named, asking, linking, ordered, linkCommand, askCommand, SpelledFor, SmallOrder}
+use Rattle.commands.specs.Commands.{askCode, linkCode, named, asking, linking, ordered}
+use Rattle.commands.specs.Commands.{linkCommand, askCommand, SpelledFor, SmallOrder}
 
 -- a command in two: all its values but the last, and the last
 pub in-two : (c : Command) → spelled c ≡ beginning c ++ (lastOf c ∷ [])
@@ -59,12 +60,12 @@ code-for codeOf c =
     (λ f. chosen (CodeFor codeOf c) (eqb c (codeOf Modem)) (λ g. eqb-true c (codeOf Modem) g)
     (λ g. chosen (CodeFor codeOf c) (eqb c (codeOf Socket)) (λ h. eqb-true c (codeOf Socket) h) (λ h. tt))))
 
-asked : (x y : ℕ) → x ≡ 98 → (n : Named) → CodeFor receiverCode y n → SpelledFor (asking n) (pro2 x y)
+asked : (x y : ℕ) → x ≡ askCode → (n : Named) → CodeFor receiverCode y n → SpelledFor (asking n) (pro2 x y)
 unfolding CodeFor
 asked x y e (Is m) f = ap₂ pro2 e f
 asked x y e Nobody f = tt
 
-linked : (x y z : ℕ) (on : Bool) → x ≡ cond on 97 96
+linked : (x y z : ℕ) (on : Bool) → x ≡ linkCode on
     → SpelledFor (linking (named receiverCode y) (named senderCode z) on) (pro3 x y z)
 unfolding CodeFor
 linked x y z on e = go (named receiverCode y) (named senderCode z) (code-for receiverCode y) (code-for senderCode z)
@@ -72,18 +73,18 @@ linked x y z on e = go (named receiverCode y) (named senderCode z) (code-for rec
     go : (a b : Named) → CodeFor receiverCode y a → CodeFor senderCode z b → SpelledFor (linking a b on) (pro3 x y z)
     go Nobody b f g = tt
     go (Is r) Nobody f g = tt
-    go (Is r) (Is s) f g = ap (λ (v : ℕ). pro3 v y z) e ∙ ap₂ (λ (v w : ℕ). pro3 (cond on 97 96) v w) f g
+    go (Is r) (Is s) f g = ap (λ (v : ℕ). pro3 v y z) e ∙ ap₂ (λ (v w : ℕ). pro3 (linkCode on) v w) f g
 
 pub spelled-for : (c : Command) → SpelledFor (ordered c) c
 spelled-for (pro1 x) = tt
 spelled-for (pro2 x y) =
-    chosen (λ (o : Order). SpelledFor o (pro2 x y)) (eqb x 98)
-    (λ e. asked x y (eqb-true x 98 e) (named receiverCode y) (code-for receiverCode y)) (λ e. tt)
+    chosen (λ (o : Order). SpelledFor o (pro2 x y)) (eqb x askCode)
+    (λ e. asked x y (eqb-true x askCode e) (named receiverCode y) (code-for receiverCode y)) (λ e. tt)
 spelled-for (pro3 x y z) =
-    chosen (λ (o : Order). SpelledFor o (pro3 x y z)) (eqb x 97)
-    (λ e. linked x y z true (eqb-true x 97 e))
-    (λ e. chosen (λ (o : Order). SpelledFor o (pro3 x y z)) (eqb x 96)
-    (λ f. linked x y z false (eqb-true x 96 f)) (λ f. tt))
+    chosen (λ (o : Order). SpelledFor o (pro3 x y z)) (eqb x (linkCode true))
+    (λ e. linked x y z true (eqb-true x (linkCode true) e))
+    (λ e. chosen (λ (o : Order). SpelledFor o (pro3 x y z)) (eqb x (linkCode false))
+    (λ f. linked x y z false (eqb-true x (linkCode false) f)) (λ f. tt))
 
 -- ---- nothing of a command is passed on
 

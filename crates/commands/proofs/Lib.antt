@@ -1,1 +1,3 @@
+pub mod Echoes
+pub mod Written
 pub mod Known

@@ -53,15 +53,23 @@ linking Nobody sender on = Nothing
 linking (Is receiver) Nobody on = Nothing
 linking (Is receiver) (Is sender) on = Link receiver sender on
 
+-- "6/2"; "6/1 or 6/0 .. sets or clears"
+abbrev pub askCode : ℕ
+askCode = 98
+
+abbrev pub linkCode : Bool → ℕ
+linkCode true = 97
+linkCode false = 96
+
 -- "PRO2 with 6/2 and a receiver asks"
 abbrev pub orderedByTwo : ℕ → ℕ → Order
-orderedByTwo x y = cond (eqb x 98) (asking (named receiverCode y)) Nothing
+orderedByTwo x y = cond (eqb x askCode) (asking (named receiverCode y)) Nothing
 
 -- "PRO3 with 6/1 or 6/0, receiver 5/8 to 5/B, sender 5/0 to 5/3 .. sets or clears a link"
 abbrev pub orderedByThree : ℕ → ℕ → ℕ → Order
 orderedByThree x y z =
-    cond (eqb x 97) (linking (named receiverCode y) (named senderCode z) true)
-    (cond (eqb x 96) (linking (named receiverCode y) (named senderCode z) false) Nothing)
+    cond (eqb x (linkCode true)) (linking (named receiverCode y) (named senderCode z) true)
+    (cond (eqb x (linkCode false)) (linking (named receiverCode y) (named senderCode z) false) Nothing)
 
 -- "Unknown commands are swallowed without reply"
 abbrev pub ordered : Command → Order
@@ -72,10 +80,10 @@ ordered (pro3 x y z) = orderedByThree x y z
 -- ---- the commands that are known
 
 abbrev pub linkCommand : Module → Module → Bool → Command
-linkCommand receiver sender on = pro3 (cond on 97 96) (receiverCode receiver) (senderCode sender)
+linkCommand receiver sender on = pro3 (linkCode on) (receiverCode receiver) (senderCode sender)
 
 abbrev pub askCommand : Module → Command
-askCommand receiver = pro2 98 (receiverCode receiver)
+askCommand receiver = pro2 askCode (receiverCode receiver)
 
 -- a command with this order is spelled so; none passes anything on
 abbrev pub SpelledFor : Order → Command → Type 0

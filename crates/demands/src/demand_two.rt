@@ -38,10 +38,17 @@ pub use link_demands::states::the_host_chooses_a_table;
 // the links: commands and replies
 pub use link_demands::replying::a_command_is_known_by_its_codes;
 pub use link_demands::replying::a_reply_goes_to_the_sender_alone;
+pub use link_demands::replying::a_reply_is_a_command_that_orders_nothing;
+pub use link_demands::replying::a_reply_is_never_answered;
 pub use link_demands::replying::a_status_tells_the_table;
 pub use link_demands::replying::commands_are_taken_out_of_the_flow;
+pub use link_demands::replying::each_has_its_own_sequence;
 pub use link_demands::replying::exactly_so_many_codes_are_taken;
 pub use link_demands::replying::one_link_changes;
+
+// the links: worked runs, byte by byte
+pub use link_demands::cards::the_link_cards_hold;
+pub use link_demands::states::a_run_makes_the_public_calls;
 
 // the board
 pub use board_demands::a_cut_changes_nothing;

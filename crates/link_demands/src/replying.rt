@@ -2,7 +2,7 @@
 // unfinished from modem or socket, in which that one says the values vs and anything else may be called in between.
 ghost use mathlib.Core.Path.{_≡_};
 ghost use mathlib.Core.Bool.{Bool, cond, _&&_, not};
-ghost use mathlib.Core.List.{List, [], _∷_, _++_};
+ghost use mathlib.Core.List.{List, [], _∷_, _++_, map};
 ghost use Prim.Native.Nat.{ℕ, _+_, _/_, _%_, _<_};
 ghost use lib.ListN.{length, getD, take};
 ghost use Rattle.wiring.specs.declared.Module.{Module};
@@ -10,18 +10,18 @@ ghost use Rattle.wiring.specs.declared.Module.the-variants.{Modem, Socket};
 ghost use Rattle.wiring.specs.declared.Table.{Table};
 ghost use Rattle.wiring.specs.Modules.{same, receiverCode, senderCode};
 ghost use Rattle.wiring.specs.Tables.{reaches};
-ghost use Rattle.replies.specs.Replies.{shown, statusOf, weightOf};
+ghost use Rattle.replies.specs.Replies.{shown, statusOf, weightOf, replyOf};
 ghost use Rattle.hearing.specs.declared.Unfinished.the-variants.{Free};
 ghost use Rattle.commands.specs.declared.Order.the-variants.{Nothing, Link, Ask};
-ghost use Rattle.commands.specs.Commands.{Command, spelled, beginning, lastOf, ordered, linkCommand, askCommand};
+ghost use Rattle.commands.specs.Commands.{Command, pro3, spelled, beginning, lastOf, ordered, linkCommand, askCommand};
 ghost use Rattle.commands.specs.Commands.{SpelledFor};
-ghost use Rattle.hearing.specs.Hearing.{codesOf};
+ghost use Rattle.hearing.specs.Hearing.{codesOf, leftAfter};
 ghost use Rattle.links.specs.declared.Links.{Links};
 ghost use Rattle.ears.specs.declared.Ear.{Ear};
 ghost use Rattle.ears.specs.declared.Ear.the-variants.{Modem as EarModem, Socket as EarSocket};
 ghost use Rattle.ears.specs.Ears.{nameOf};
 ghost use Rattle.links.specs.States.{unfinished};
-ghost use Rattle.links.specs.Runs.{Call, value, obey, run, Says, Swallowed, Answered};
+ghost use Rattle.links.specs.Runs.{Call, value, obey, run, said, gotFrom, InRange, Says, Swallowed, Answered};
 
 // PRO3 with 6/1 or 6/0, a receiver and a sender orders that link set or cleared, PRO2 with 6/2 and a receiver asks for
 // its status, and no other command orders anything. (A command is its beginning and its last code.)
@@ -80,4 +80,31 @@ pub fn a_status_tells_the_table()
     ensures bits { λ _. ⌜ ((t : Table) (receiver sender : Module)
         → statusOf t receiver / weightOf sender % 2 ≡ cond (shown t receiver sender) 1 0) ⌝ }
     ensures column { λ _. ⌜ ((t : Table) (receiver : Module) → statusOf t receiver / 16 ≡ 4) ⌝ }
+{}
+
+// A reply is a PRO3 command spelled, with 6/3, its receiver's code and its status; and such a command orders nothing,
+// whatever it names.
+pub fn a_reply_is_a_command_that_orders_nothing()
+    ensures spelled { λ _. ⌜ ((t : Table) (receiver : Module)
+        → replyOf t receiver ≡ spelled (pro3 99 (receiverCode receiver) (statusOf t receiver))) ⌝ }
+    ensures orders { λ _. ⌜ ((x y : ℕ) → ordered (pro3 99 x y) ≡ Nothing) ⌝ }
+{}
+
+// A reply that modem or socket says back is swallowed, whatever else is called in between: at each of its values nobody
+// gets anything, and the table and what is unfinished from the other stay. With nothing called in between, the links are
+// behind it as they were before it. So two boards never answer each other for ever.
+pub fn a_reply_is_never_answered()
+    ensures each { λ _. ⌜ ((e : Ear) (l : Links) (cs : List Call) (t : Table) (receiver : Module) (k : ℕ) → k < 5
+        → Says e l cs (take k (replyOf t receiver)) → Swallowed (run l cs) e (getD (replyOf t receiver) k 0)) ⌝ }
+    ensures whole { λ _. ⌜ ((e : Ear) (l : Links) (t : Table) (receiver : Module) → InRange l → unfinished l e ≡ Free
+        → (run l (map (value e) (replyOf t receiver)) ≡ l)
+        × ((m : Module) → gotFrom e m l (map (value e) (replyOf t receiver)) ≡ [])) ⌝ }
+{}
+
+// Each of modem and socket has its own unfinished sequence: from any state in range, what is unfinished from it after a
+// run follows from what was, and from the values that it said itself; keys, the other one's values and the host's
+// choices have no part in it.
+pub fn each_has_its_own_sequence()
+    ensures { λ _. ⌜ ((l : Links) (cs : List Call) (e : Ear) → InRange l
+        → unfinished (run l cs) e ≡ leftAfter (unfinished l e) (said e cs)) ⌝ }
 {}

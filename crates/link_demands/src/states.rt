@@ -3,15 +3,18 @@
 ghost use mathlib.Core.Path.{_≡_};
 ghost use mathlib.Core.Bool.{true, false};
 ghost use mathlib.Core.List.{List, [], _∷_};
+ghost use Prim.Native.Nat.{ℕ};
 ghost use Rattle.wiring.specs.declared.Module.{Module};
 ghost use Rattle.wiring.specs.Tables.{reaches};
 ghost use Rattle.replies.specs.Replies.{statusesOf};
 ghost use Rattle.sending.specs.Sending.{silence, partOf, FewIn};
+ghost use Rattle.ears.specs.declared.Ear.the-variants.{Modem as EarModem, Socket as EarSocket};
 ghost use Rattle.links.specs.declared.Links.{Links};
 ghost use Rattle.links.specs.declared.Answer.the-variants.{TooLarge, Broken};
 ghost use Rattle.links.specs.States.{localLinks, connectedLinks, inRange};
-ghost use Rattle.links.specs.Calls.{told, taken, refused, withTable};
-ghost use Rattle.links.specs.Runs.{Call, toLocal, toConnected, obey, run, InRange, tooLarge, callTold};
+ghost use Rattle.links.specs.Calls.{told, taken, refused, withTable, withLocal, withConnected};
+ghost use Rattle.links.specs.Calls.{fromKeyboard, fromModem, fromSocket};
+ghost use Rattle.links.specs.Runs.{Call, key, value, toLocal, toConnected, obey, run, InRange, tooLarge, callTold};
 
 // A call's number, and the place that it names, come of the paper's conditions in their order: 5 for a broken state,
 // then 2 for a value above 127, and else 0. After a refusal the state handed in comes back, and nothing is sent.
@@ -47,4 +50,12 @@ pub fn the_host_chooses_a_table()
 // Whatever the state and the call, a receiver gets at most five bytes, and none above 127.
 pub fn at_most_five_small_bytes()
     ensures { λ _. ⌜ ((c : Call) (l : Links) (receiver : Module) → FewIn (partOf (obey c l .sent) receiver)) ⌝ }
+{}
+
+// The calls of a run, of which every theorem here speaks, are the public ones: a key is `from_keyboard`, a value of modem
+// or socket `from_modem` or `from_socket`, the host's choice `with_local` or `with_connected`.
+pub fn a_run_makes_the_public_calls()
+    ensures values { λ _. ⌜ ((l : Links) (v : ℕ) → (obey (key v) l ≡ fromKeyboard l v)
+        × (obey (value EarModem v) l ≡ fromModem l v) × (obey (value EarSocket v) l ≡ fromSocket l v)) ⌝ }
+    ensures choices { λ _. ⌜ ((l : Links) → (obey toLocal l ≡ withLocal l) × (obey toConnected l ≡ withConnected l)) ⌝ }
 {}

@@ -1,3 +1,4 @@
+pub mod Computed
 pub mod Steps
 pub mod Ranges
 pub mod Refusals
@@ -5,5 +6,6 @@ pub mod Few
 pub mod Own
 pub mod Flow
 pub mod Replying
+pub mod Echoes
 pub mod Choosing
 pub mod Through

@@ -75,7 +75,7 @@ same-ear : (e : Ear) → sameEar e e ≡ true
 same-ear modem = refl
 same-ear socket = refl
 
-said-so : (e : Ear) (vs : List ℕ) → Values vs → said e (map (value e) vs) ≡ vs
+pub said-so : (e : Ear) (vs : List ℕ) → Values vs → said e (map (value e) vs) ≡ vs
 said-so e [] h = refl
 said-so e (v ∷ vs) h =
     ap₂ (λ (t u : Bool). cond t (cond u [] (v ∷ [])) [] ++ said e (map (value e) vs)) (same-ear e)

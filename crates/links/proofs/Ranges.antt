@@ -22,9 +22,10 @@ use Rattle.ears.specs.declared.Ear.the-variants.{Modem as modem, Socket as sock
 use Rattle.links.specs.declared.Outcome.{Outcome}
 use Rattle.ears.specs.Ears.{nameOf}
 use Rattle.links.specs.States.{unfinished, starting, localLinks, connectedLinks, inRange}
-use Rattle.links.specs.Calls.{withTable, choosing, taking, fromEar}
+use Rattle.links.specs.Calls.{withTable, choosing, taking}
 use Rattle.links.specs.Runs.{Call, key, value, toLocal, toConnected, obey, run, InRange}
-use Rattle.links.proofs.Steps.{keys-change-nothing}
+use Rattle.links.proofs.Steps.{accepted, keys-change-nothing}
+use Rattle.links.proofs.Refusals.{broken, large, small}
 
 -- ---- the test
 
@@ -100,11 +101,15 @@ Keeps : Outcome → Type 0
 Keeps o = InRange (o .next)
 
 pub kept : (c : Call) (l : Links) → InRange l → InRange (obey c l .next)
-unfolding fromEar Keeps
+unfolding Keeps
 kept (key v) l r = subst⁻¹ InRange (keys-change-nothing l v) r
-kept (value e v) l r =
-    chosen Keeps (inRange l)
-    (λ i. chosen Keeps (ltb 127 v) (λ h. r) (λ h. heard-kept l e v r (ltb-false 127 v h))) (λ i. r)
+kept (value e v) l r = go (inRange l) (ltb 127 v) refl refl
+  where
+    go : (i t : Bool) → inRange l ≡ i → ltb 127 v ≡ t → Keeps (obey (value e v) l)
+    go true true i h = subst⁻¹ Keeps (large (value e v) l i h) r
+    go true false i h =
+        subst⁻¹ Keeps (accepted e l v i (small v h)) (heard-kept l e v r (ltb-false 127 v h))
+    go false t i h = subst⁻¹ Keeps (broken (value e v) l i) r
 kept toLocal l r = chosen-kept l localTable local-none r
 kept toConnected l r = chosen-kept l connectedTable connected-none r
 

@@ -64,7 +64,7 @@ quiet-heard e l h n = (
 )
 
 -- a value that orders nothing is swallowed, and so is one that is refused
-swallowed : (e : Ear) (l : Links) (v : ℕ) → inRange l ≡ true → heard (unfinished l e) v .order ≡ Nothing
+pub swallowed : (e : Ear) (l : Links) (v : ℕ) → inRange l ≡ true → heard (unfinished l e) v .order ≡ Nothing
     → Swallowed l e v
 unfolding Quiet
 swallowed e l v i n =

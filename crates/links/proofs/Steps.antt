@@ -1,11 +1,10 @@
 -- What one call does where it is not refused. Assumes nothing.
 use mathlib.Core.Path.{_≡_, refl}
-use mathlib.Core.Bool.{true}
+use mathlib.Core.Bool.{Bool, true, false}
 use Prim.Native.Nat.{ℕ, _<_}
 use native.Mathlib.Omega.{arith}
 use lib.Dec.{ltb}
 use borrow.Author.Tests.{le-ltb}
-use Rattle.laws.proofs.Computed.{chosen}
 use Rattle.wiring.specs.declared.Module.the-variants.{Keyboard}
 use Rattle.wiring.specs.declared.Table.{Table}
 use Rattle.commands.specs.declared.Order.the-variants.{Pass}
@@ -20,8 +19,9 @@ use Rattle.links.specs.declared.Outcome.{Outcome}
 use Rattle.ears.specs.Ears.{nameOf}
 use Rattle.ears.proofs.Apart.{owns}
 use Rattle.links.specs.States.{unfinished, inRange}
-use Rattle.links.specs.Calls.{taken, withTable, choosing, taking, fromEar, fromKeyboard}
-use Rattle.links.specs.Runs.{other, key, obey}
+use Rattle.links.specs.Calls.{taken, withTable, choosing, withLocal, withConnected, taking, fromEar}
+use Rattle.links.specs.Calls.{fromKeyboard, fromModem, fromSocket}
+use Rattle.links.specs.Runs.{other, key, value, toLocal, toConnected, obey}
 
 pub accepted : (e : Ear) (l : Links) (v : ℕ) → inRange l ≡ true → v < 128
     → fromEar l e v ≡ taking l e (heard (unfinished l e) v)
@@ -67,6 +67,20 @@ sent-heard e l h = refl
 
 pub keys-change-nothing : (l : Links) (v : ℕ) → obey (key v) l .next ≡ l
 unfolding fromKeyboard
-keys-change-nothing l v =
-    chosen (λ (o : Outcome). o .next ≡ l) (inRange l)
-    (λ i. chosen (λ (o : Outcome). o .next ≡ l) (ltb 127 v) (λ h. refl) (λ h. refl)) (λ i. refl)
+keys-change-nothing l v = go (inRange l) (ltb 127 v) refl refl
+  where
+    go : (i t : Bool) → inRange l ≡ i → ltb 127 v ≡ t → fromKeyboard l v .next ≡ l
+    go true true e f = simp (e, f)
+    go true false e f = simp (e, f)
+    go false true e f = simp (e, f)
+    go false false e f = simp (e, f)
+
+-- ---- the calls of a run are the public ones
+
+pub public-values : (l : Links) (v : ℕ)
+    → (obey (key v) l ≡ fromKeyboard l v) × (obey (value modem v) l ≡ fromModem l v)
+    × (obey (value socket v) l ≡ fromSocket l v)
+public-values l v = (refl, refl, refl)
+
+pub public-choices : (l : Links) → (obey toLocal l ≡ withLocal l) × (obey toConnected l ≡ withConnected l)
+public-choices l = (refl, refl)

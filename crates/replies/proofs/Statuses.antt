@@ -3,52 +3,16 @@
 use mathlib.Core.Path.{_≡_, refl}
 use mathlib.Core.Bool.{Bool, true, false, cond}
 use mathlib.Core.List.{[], _∷_}
-use Prim.Native.Nat.{ℕ, _/_, _%_, _≤_}
+use Prim.Native.Nat.{ℕ, zero, suc, _/_, _%_}
 use native.Mathlib.Omega.{arith}
 use lib.ListN.{length}
 use Rattle.values.specs.Large.{Values}
-use Rattle.values.proofs.Found.{values-none, values-cons}
 use Rattle.wiring.specs.declared.Module.{Module}
 use Rattle.wiring.specs.declared.Module.the-variants.{Screen, Keyboard, Modem, Socket}
 use Rattle.wiring.specs.declared.Table.{Table}
-use Rattle.wiring.specs.Modules.{receiverCode}
 use Rattle.wiring.specs.Tables.{row, localTable, connectedTable}
 use Rattle.wiring.proofs.Small.{receiver-small}
-use Rattle.replies.specs.Replies.{shown, columnOf, weighed, summed, statusOf, replyOf, statusesOf, weightOf}
-
--- ---- how large it is
-
-pub weighed-top : (on : Bool) (w : ℕ) → weighed on w ≤ w
-weighed-top true w = omega arith
-weighed-top false w = omega arith
-
-status-top : (t : Table) (receiver : Module) → statusOf t receiver ≤ 79
-unfolding statusOf
-status-top t receiver =
-    let w = columnOf t receiver in
-    omega (
-      arith,
-      weighed-top (w .socket) 8,
-      weighed-top (w .modem) 4,
-      weighed-top (w .keyboard) 2,
-      weighed-top (w .screen) 1,
-    )
-
--- a reply is five values of 0 to 127
-pub reply-length : (t : Table) (receiver : Module) → length (replyOf t receiver) ≡ 5
-unfolding replyOf
-reply-length t r = refl
-
-pub reply-small : (t : Table) (receiver : Module) → Values (replyOf t receiver)
-unfolding replyOf
-reply-small t r =
-    let code = receiverCode r in
-    let status = statusOf t r in
-    values-cons 27 (59 ∷ 99 ∷ code ∷ status ∷ []) (omega arith)
-    (values-cons 59 (99 ∷ code ∷ status ∷ []) (omega arith)
-    (values-cons 99 (code ∷ status ∷ []) (omega arith)
-    (values-cons code (status ∷ []) (receiver-small r)
-    (values-cons status [] (omega (arith, status-top t r)) values-none))))
+use Rattle.replies.specs.Replies.{shown, summed, statusOf, replyOf, statusesOf, weightOf}
 
 -- ---- its bits
 
@@ -88,7 +52,24 @@ status-bit t r Keyboard = bits (shown t r Screen) (shown t r Keyboard) (shown t 
 status-bit t r Modem = bits (shown t r Screen) (shown t r Keyboard) (shown t r Modem) (shown t r Socket) .3
 status-bit t r Socket = bits (shown t r Screen) (shown t r Keyboard) (shown t r Modem) (shown t r Socket) .4
 
--- in the two standard tables
+-- ---- how large it is
+
+-- a reply is five values of 0 to 127
+pub reply-length : (t : Table) (receiver : Module) → length (replyOf t receiver) ≡ 5
+unfolding replyOf
+reply-length t r = refl
+
+pub reply-small : (t : Table) (receiver : Module) → Values (replyOf t receiver)
+unfolding replyOf
+reply-small t r zero l = omega arith
+reply-small t r (suc zero) l = omega arith
+reply-small t r (suc (suc zero)) l = omega arith
+reply-small t r (suc (suc (suc zero))) l = receiver-small r
+reply-small t r (suc (suc (suc (suc zero)))) l = omega (arith, status-column t r)
+reply-small t r (suc (suc (suc (suc (suc i))))) l = absurd (omega (arith, l))
+
+-- ---- the two standard tables
+
 pub local-statuses : statusesOf localTable ≡ 77 ∷ 66 ∷ 70 ∷ 74 ∷ []
 unfolding statusOf
 local-statuses = refl

@@ -2,6 +2,7 @@
 //
 // specs/Replies says what a reply is; proofs/ shows that its status tells the table, bit by bit.
 ghost use mathlib.Core.Path.{_≡_};
+ghost use Prim.Native.Nat.{_≤_};
 ghost use Rattle.wiring.specs.Modules.{receiverCode};
 ghost use Rattle.replies.specs.Replies.{columnOf, weighed, summed, replyOf};
 use wiring::Module;
@@ -42,6 +43,7 @@ fn column(table: Table, receiver: Module) -> Row
 
 fn weigh(on: bool, weight: u8) -> u8
     ensures { λ r. ⌜ r ≡ weighed on weight ⌝ }
+    ensures most { λ r. ⌜ r ≤ weight ⌝ }
 {
     if on { weight } else { 0 }
 }

@@ -27,6 +27,7 @@ use Rattle.sending.specs.declared.Bytes.{Bytes}
 use Rattle.sending.specs.Sending.{packed, bytesOf, to, nowhere, silence, onlyTo, receiversFor, bytesFor, sentFor}
 use Rattle.sending.specs.Sending.{obeyed}
 use Rattle.sending.specs.Sending.{partOf, gets, FewIn}
+use Rattle.sending.proofs.Counts.{count-few}
 
 -- ---- who gets it
 
@@ -143,7 +144,7 @@ few-bytes t (Ask receiver) s = few-reply t receiver
 
 few-packed : (vs : List ℕ) → Few vs → FewIn (packed vs)
 unfolding Few
-few-packed vs f = (f .0, ap length (unpacked vs), subst⁻¹ Values (unpacked vs) (f .1))
+few-packed vs f = (count-few vs (f .0), ap length (unpacked vs), subst⁻¹ Values (unpacked vs) (f .1))
 
 few-none : FewIn (packed [])
 unfolding Few

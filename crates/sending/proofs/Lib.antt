@@ -1,1 +1,4 @@
+pub mod Counts
+pub mod Written
 pub mod Getting
+pub mod Echoes

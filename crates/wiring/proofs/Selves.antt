@@ -36,13 +36,17 @@ joined false b e = (refl, e)
 pub tested : (t : Table) → selfLinked t ≡ false → NoneItself t
 unfolding selfLinked
 tested t e =
-    let first = joined (t .screen .screen) (t .keyboard .keyboard || (t .modem .modem || t .socket .socket)) e in
-    let second = joined (t .keyboard .keyboard) (t .modem .modem || t .socket .socket) (first .1) in
-    let third = joined (t .modem .modem) (t .socket .socket) (second .1) in
+    let screen = reaches t Screen Screen in
+    let keyboard = reaches t Keyboard Keyboard in
+    let modem = reaches t Modem Modem in
+    let socket = reaches t Socket Socket in
+    let first = joined screen (keyboard || (modem || socket)) e in
+    let second = joined keyboard (modem || socket) (first .1) in
+    let third = joined modem socket (second .1) in
     all (first .0) (second .0) (third .0) (third .1)
   where
-    all : t .screen .screen ≡ false → t .keyboard .keyboard ≡ false → t .modem .modem ≡ false
-        → t .socket .socket ≡ false → NoneItself t
+    all : reaches t Screen Screen ≡ false → reaches t Keyboard Keyboard ≡ false → reaches t Modem Modem ≡ false
+        → reaches t Socket Socket ≡ false → NoneItself t
     all a b c d Screen = a
     all a b c d Keyboard = b
     all a b c d Modem = c

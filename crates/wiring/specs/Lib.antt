@@ -1,2 +1,3 @@
 pub mod Modules
 pub mod Tables
+pub mod Reading

@@ -1,7 +1,6 @@
 -- `replies::sum` meets its contract. Assumes nothing.
 use native.Mathlib.Omega.{arith}
 use borrow.Author.Needs.{needs}
-use Rattle.replies.proofs.Statuses.{weighed-top}
 use Rattle.replies.proofs.sum.Statement.{statement}
 use Rattle.replies.proofs.sum.Tie as tie
 
@@ -18,47 +17,29 @@ weigh-requires-4 : tie.Need-weigh-requires-4
 weigh-requires-4 c κs = search needs
 
 add-result : tie.Need-add-result
-add-result c =
-    omega (
-      arith,
-      c .before .before .before .weigh .ensures,
-      weighed-top (c .before .before .before .before .args .senders .socket) 8,
-    )
+add-result c = omega (arith, c .before .before .before .weigh .ensures .1)
 
 add-result-2 : tie.Need-add-result-2
 add-result-2 c =
-    omega (
-      arith,
-      c .before .before .before .weigh .ensures,
-      weighed-top (c .before .before .before .before .args .senders .socket) 8,
-      c .before .before .weigh2 .ensures,
-      weighed-top (c .before .before .before .before .args .senders .modem) 4,
-    )
+    omega (arith, c .before .before .before .weigh .ensures .1, c .before .before .weigh2 .ensures .1)
 
 add-result-3 : tie.Need-add-result-3
 add-result-3 c =
     omega (
       arith,
-      c .before .before .before .weigh .ensures,
-      weighed-top (c .before .before .before .before .args .senders .socket) 8,
-      c .before .before .weigh2 .ensures,
-      weighed-top (c .before .before .before .before .args .senders .modem) 4,
-      c .before .weigh3 .ensures,
-      weighed-top (c .before .before .before .before .args .senders .keyboard) 2,
+      c .before .before .before .weigh .ensures .1,
+      c .before .before .weigh2 .ensures .1,
+      c .before .weigh3 .ensures .1,
     )
 
 add-result-4 : tie.Need-add-result-4
 add-result-4 c =
     omega (
       arith,
-      c .before .before .before .weigh .ensures,
-      weighed-top (c .before .before .before .before .args .senders .socket) 8,
-      c .before .before .weigh2 .ensures,
-      weighed-top (c .before .before .before .before .args .senders .modem) 4,
-      c .before .weigh3 .ensures,
-      weighed-top (c .before .before .before .before .args .senders .keyboard) 2,
-      c .weigh4 .ensures,
-      weighed-top (c .before .before .before .before .args .senders .screen) 1,
+      c .before .before .before .weigh .ensures .1,
+      c .before .before .weigh2 .ensures .1,
+      c .before .weigh3 .ensures .1,
+      c .weigh4 .ensures .1,
     )
 
 returns : tie.Need-returns

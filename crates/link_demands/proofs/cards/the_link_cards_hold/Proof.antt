@@ -1,0 +1,10 @@
+-- The theorem is proved where its words are. Assumes nothing.
+use Rattle.links.proofs.Computed.{link-cards}
+use Rattle.link_demands.proofs.cards.the_link_cards_hold.Statement.{statement}
+use Rattle.link_demands.proofs.cards.the_link_cards_hold.Tie as tie
+
+returns : tie.Need-returns
+returns c = link-cards
+
+pub the-link-cards-hold-spec : {M : Type 1} → statement M
+the-link-cards-hold-spec = tie.close (tie.spec returns)
