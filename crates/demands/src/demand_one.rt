@@ -5,6 +5,7 @@
 pub use block_demands::demand_one::an_answer_is_told_in_one_way;
 pub use block_demands::demand_one::each_number_is_given_exactly_when;
 pub use block_demands::demand_one::refusals_leave_what_was_lent;
+pub use block_demands::demand_one::the_lowest_place_is_named;
 
 // the receiver: 5, and 0 also where a repeat is asked
 pub use line_demands::states::a_broken_state_is_handed_back;
