@@ -10,6 +10,7 @@ pub use block_demands::demand_one::the_lowest_place_is_named;
 // the receiver: 5, and 0 also where a repeat is asked
 pub use line_demands::states::a_broken_state_is_handed_back;
 pub use line_demands::states::each_call_gives_its_number as each_call_of_a_receiver_gives_its_number;
+pub use line_demands::states::places_past_a_count_are_0;
 
 // the screen: 5 and 2
 pub use screen_demands::states::each_call_gives_its_number as each_call_of_a_screen_gives_its_number;

@@ -7,17 +7,17 @@ ghost use mathlib.Core.Logic.{_⊎_};
 ghost use Prim.Native.Nat.{ℕ, _+_, _*_, _%_, _≤_, _<_};
 ghost use lib.ListN.{length, getD, take, drop, replicate};
 ghost use Rattle.values.specs.Large.{Values};
-ghost use Rattle.parity.specs.Parity.{withParity};
+ghost use Rattle.parity.specs.Parity.{even, withParity};
 ghost use Rattle.validity.specs.Block.{Valid};
 ghost use Rattle.validity.specs.Changed.{flip};
 ghost use Rattle.maker.specs.Making.{valuesOf};
 ghost use Rattle.reader.specs.declared.Verdict.the-variants.{Repeat};
 ghost use Rattle.reader.specs.Judging.{verdict, mendable};
 ghost use Rattle.reader.specs.Claims.{NoneNear, OnlyNear};
-ghost use Rattle.codes.specs.Codes.{syn, nack, four, request, Ends, Nowhere};
+ghost use Rattle.codes.specs.Codes.{numbers, syn, nack, four, request, Ends, Nowhere};
 ghost use Rattle.phases.specs.declared.Phase.the-variants.{Off, Collecting, Waiting};
 ghost use Rattle.receiver.specs.declared.Receiver.{Receiver};
-ghost use Rattle.receiver.specs.declared.Judged.the-variants.{Block};
+ghost use Rattle.receiver.specs.declared.Judged.the-variants.{Nothing, Block};
 ghost use Rattle.receiver.specs.States.{InRange, emptied, newReceiver};
 ghost use Rattle.receiver.specs.Calls.{silent, stepped, switchedOn, switchedOff, askedAgain};
 ghost use Rattle.receiver.specs.Runs.{Event, byte, on, obey, run, Sent, sentBy, sent, allPassed, allAsked};
@@ -44,10 +44,26 @@ pub fn the_number_counts_accepted_blocks()
         → obey e r .next .number ≡ (r .number + blocksIn (sentBy (obey e r))) % 16) ⌝ }
 {}
 
+// Off, a value with parity passes as that value, and a byte of odd parity as 7/F; nothing else goes out, and the state
+// stays.
+pub fn while_off_each_byte_passes_by_itself()
+    ensures { λ _. ⌜ ((r : Receiver) → InRange r → r .phase ≡ Off → (v : ℕ) → v < 128
+        → (stepped r (withParity v) .next ≡ r)
+        × (sentBy (stepped r (withParity v)) ≡ passes (v ∷ []) Nothing)) ⌝ }
+    ensures odd { λ _. ⌜ ((r : Receiver) → InRange r → r .phase ≡ Off → (b : ℕ) → even b ≡ false
+        → (stepped r b .next ≡ r) × (sentBy (stepped r b) ≡ passes (127 ∷ []) Nothing)) ⌝ }
+{}
+
 // At any call nothing is asked; or NACK and 4/X are, with parity, X the number awaited, which stays, and the receiver
-// waits. Asking again changes nothing, gives the request in waiting and nothing elsewhere.
+// waits. Asking again changes nothing, gives the request in waiting and nothing elsewhere. The sixteen requests are
+// written out, for the numbers 0 to 15.
 pub fn a_request_names_the_awaited_block()
     ensures codes { λ _. ⌜ (syn ≡ withParity 22) × (nack ≡ withParity 21) ⌝ }
+    ensures spelled { λ _. ⌜ map request numbers
+        ≡ (149 ∷ 192 ∷ []) ∷ (149 ∷ 65 ∷ []) ∷ (149 ∷ 66 ∷ []) ∷ (149 ∷ 195 ∷ [])
+        ∷ (149 ∷ 68 ∷ []) ∷ (149 ∷ 197 ∷ []) ∷ (149 ∷ 198 ∷ []) ∷ (149 ∷ 71 ∷ [])
+        ∷ (149 ∷ 72 ∷ []) ∷ (149 ∷ 201 ∷ []) ∷ (149 ∷ 202 ∷ []) ∷ (149 ∷ 75 ∷ [])
+        ∷ (149 ∷ 204 ∷ []) ∷ (149 ∷ 77 ∷ []) ∷ (149 ∷ 78 ∷ []) ∷ (149 ∷ 207 ∷ []) ∷ [] ⌝ }
     ensures { λ _. ⌜ ((r : Receiver) → InRange r → (e : Event) → (sentBy (obey e r) .asked ≡ [])
         ⊎ ((sentBy (obey e r) .asked ≡ request (r .number)) × (obey e r .next .number ≡ r .number)
         × IsWaiting (obey e r .next))) ⌝ }
