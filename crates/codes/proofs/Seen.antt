@@ -43,6 +43,13 @@ syn-four x e =
 
 -- ---- a byte while a block is awaited
 
+-- a SYN behind two leaves two
+two-more : (m : ℕ) → oneMore (oneMore m) ≡ 2
+two-more zero = refl
+two-more (suc zero) = refl
+two-more (suc (suc m)) =
+    ap oneMore (ap (λ (t : Bool). cond t (suc (suc m) + 1) 2) (le-ltb (suc (suc m)) 2 (omega arith)))
+
 -- a SYN counts
 after-syn : (x n : ℕ) → listened x n syn ≡ Seen (oneMore n)
 after-syn x n = refl
@@ -157,12 +164,6 @@ tail-seen ws = tail-from 0 [] ws tt
 two-at : (n : ℕ) (ws : List ℕ) → n ≡ 2 → Tail n ws → (us : List ℕ) × (ws ≡ us ++ (syn ∷ syn ∷ []))
 unfolding Tail
 two-at n ws e t = subst (λ (m : ℕ). Tail m ws) e t
-
-two-more : (m : ℕ) → oneMore (oneMore m) ≡ 2
-two-more zero = refl
-two-more (suc zero) = refl
-two-more (suc (suc m)) =
-    ap oneMore (ap (λ (t : Bool). cond t (suc (suc m) + 1) 2) (le-ltb (suc (suc m)) 2 (omega arith)))
 
 two-seen : (us : List ℕ) → seenIn (us ++ (syn ∷ syn ∷ [])) ≡ 2
 unfolding seenIn from
