@@ -5,24 +5,28 @@ ghost use mathlib.Core.Path.{_≡_};
 ghost use mathlib.Core.List.{List, [], _∷_, _++_};
 ghost use mathlib.Core.Logic.{_↔_};
 ghost use Prim.Native.Nat.{ℕ, _%_, _≤_, _<_};
-ghost use lib.ListN.{length, replicate};
+ghost use lib.ListN.{length, take, replicate};
 ghost use Rattle.validity.specs.Block.{Valid, Bytes};
 ghost use Rattle.validity.specs.Changed.{flip, hits, Places, distance};
 ghost use Rattle.reader.specs.declared.Verdict.the-variants.{Clean, Mended, Repeat};
-ghost use Rattle.reader.specs.Judging.{verdict, left, mendable};
+ghost use Rattle.reader.specs.Judging.{verdict, judged, left, handed, mendable};
 ghost use Rattle.reader.specs.Claims.{NoneNear, OnlyNear};
 
-// What is handed on is valid, within one mendable bit of what arrived, and the only such block; a repeat is asked
-// exactly when there is none.
+// What is handed on is valid, within one mendable bit of what arrived, and the only such block; the caller gets back its
+// first fifteen bytes; a repeat is asked exactly when there is none.
 pub fn handed_on_is_the_only_valid_block_near()
     ensures only { λ _. ⌜ ((B : List ℕ) → length B ≡ 17 → (verdict B ≡ Repeat → ⊥) → OnlyNear B (left B)) ⌝ }
+    ensures part { λ _. ⌜ ((B : List ℕ) → judged B .number ≡ 0 → handed B ≡ take 15 (left B)) ⌝ }
     ensures asked { λ _. ⌜ ((B : List ℕ) → length B ≡ 17 → verdict B ≡ Repeat ↔ NoneNear B) ⌝ }
 {}
 
-// A valid block hit at any one mendable bit comes back whole, and the verdict names that bit.
+// A valid block hit at any one mendable bit comes back whole, to the caller too, and the verdict names that bit. Hit
+// once at a bit that is not mendable it is repeated, and left as it came.
 pub fn hit_once_comes_back_whole()
     ensures { λ _. ⌜ ((W : List ℕ) (k : ℕ) → Valid W → k < mendable
-        → (verdict (flip k W) ≡ Mended k) × (left (flip k W) ≡ W)) ⌝ }
+        → (verdict (flip k W) ≡ Mended k) × (left (flip k W) ≡ W) × (handed (flip k W) ≡ take 15 W)) ⌝ }
+    ensures elsewhere { λ _. ⌜ ((W : List ℕ) (k : ℕ) → Valid W → mendable ≤ k → k < 136
+        → (verdict (flip k W) ≡ Repeat) × (left (flip k W) ≡ flip k W)) ⌝ }
 {}
 
 // A valid block hit at any two different bits of all 136 is refused and left as it came.
@@ -55,8 +59,8 @@ pub fn one_count_holds_for_every_block()
 // Two different valid blocks of bytes differ in at least four of their 136 bits. There are two that differ in just
 // four: so no theorem here speaks of nothing, and four is the best that can be said.
 pub fn valid_blocks_lie_four_bits_apart()
-    ensures apart { λ _. ⌜ ((C : List ℕ) → length C ≡ 17 → Bytes C → (B : List ℕ) → Bytes B
-        → Valid B → Valid C → (B ≡ C → ⊥) → 4 ≤ distance B C) ⌝ }
+    ensures apart { λ _. ⌜ ((B C : List ℕ) → Bytes B → Bytes C → Valid B → Valid C → (B ≡ C → ⊥)
+        → 4 ≤ distance B C) ⌝ }
     ensures reached { λ _. ⌜ Valid (replicate 17 0)
         × Valid (3 ∷ replicate 10 0 ++ (68 ∷ replicate 5 0))
         × (distance (replicate 17 0) (3 ∷ replicate 10 0 ++ (68 ∷ replicate 5 0)) ≡ 4) ⌝ }

@@ -4,14 +4,14 @@ ghost use mathlib.Core.Path.{_≡_};
 ghost use mathlib.Core.List.{List, _++_};
 ghost use mathlib.Core.Logic.{_↔_};
 ghost use Prim.Native.Nat.{ℕ, _+_, _-_, _^_, _≤_, _<_};
-ghost use lib.ListN.{length, getD, set, replicate};
+ghost use lib.ListN.{length, getD, set, take, drop, replicate};
 ghost use Rattle.values.specs.Large.{Values};
 ghost use Rattle.division.specs.Division.{bits};
 ghost use Rattle.division.specs.Polynomials.{polynomial, GeneratorDivides};
 ghost use Rattle.validity.specs.Block.{codeBits, remainder, Valid, Bytes};
 ghost use Rattle.validity.specs.Changed.{flip};
 ghost use Rattle.validity.specs.Units.{unit};
-ghost use Rattle.maker.specs.Making.{useful, blockOf, valuesOf};
+ghost use Rattle.maker.specs.Making.{useful, blockOf, valuesOf, makeNumber, makeLeft};
 ghost use Rattle.reader.specs.declared.Verdict.the-variants.{Clean};
 ghost use Rattle.reader.specs.Judging.{verdict, handed, mendable};
 
@@ -35,12 +35,15 @@ pub fn changing_a_bit_changes_that_bit_alone()
 {}
 
 // Every made block is valid; judged, it is clean; handed back are the values with parity, filled up with NUL;
-// without parity they are the values again.
+// without parity they are the values again. Where the maker takes the values, the first seventeen bytes of its output
+// are then that block, and those behind them are as they were.
 pub fn what_the_maker_writes_the_reader_hands_back()
     ensures { λ _. ⌜ ((vs : List ℕ) → length vs ≤ 15 → Values vs
         → Valid (blockOf vs) × (verdict (blockOf vs) ≡ Clean)
         × (handed (blockOf vs) ≡ useful vs)
         × (valuesOf (blockOf vs) ≡ vs ++ replicate (15 - length vs) 0)) ⌝ }
+    ensures written { λ _. ⌜ ((vs O : List ℕ) → makeNumber vs O ≡ 0
+        → (take 17 (makeLeft vs O) ≡ blockOf vs) × (drop 17 (makeLeft vs O) ≡ drop 17 O)) ⌝ }
 {}
 
 // Bytes judged clean are exactly what the maker writes for their fifteen values.

@@ -7,7 +7,7 @@ use Rattle.parity.specs.Parity.{ones, even, allEven, withParity}
 use Rattle.validity.specs.Block.{codeBits, remainder, valid}
 use Rattle.validity.specs.Changed.{flip}
 use Rattle.maker.specs.Making.{useful, sealed, blockOf}
-use Rattle.reader.specs.Judging.{tryFrom, verdict, left}
+use Rattle.reader.specs.Judging.{tryFrom, verdict, left, handed}
 use Rattle.cells.specs.Within.{goodCharacter}
 use Rattle.sheet.specs.Clearing.{cleared}
 use Rattle.sheet.specs.Within.{allGood}
@@ -21,9 +21,20 @@ use Rattle.cards.specs.Cards.{Card, EachHolds, blockCards, lineCards, sc
 
 on-blocks : EachHolds blockCards
 unfolding lowBits bits reduce divide checkBits ones even allEven withParity codeBits remainder valid
-    flip useful sealed blockOf tryFrom verdict left
-on-blocks =
-    (refl, (refl, ((refl, refl), ((refl, refl), ((refl, refl), ((refl, refl), ((refl, refl), ((refl, refl), tt))))))))
+    flip firstLarge useful sealed blockOf tryFrom verdict left handed
+on-blocks = (
+  (refl, refl),
+  (
+    (refl, refl),
+    (
+      (refl, refl, refl),
+      (
+        (refl, refl, refl),
+        ((refl, refl, refl), ((refl, refl, refl), ((refl, refl, refl), ((refl, refl, refl), tt)))),
+      ),
+    ),
+  ),
+)
 
 on-the-line : EachHolds lineCards
 unfolding lowBits bits reduce divide ones even allEven withParity codeBits remainder valid flip tryFrom verdict left

@@ -4,10 +4,10 @@ use mathlib.Core.Bool.{false}
 use mathlib.Core.List.{List, [], _∷_, _++_, map}
 use Prim.Native.Nat.{ℕ}
 use lib.ListN.{replicate}
-use Rattle.maker.specs.Making.{blockOf}
+use Rattle.maker.specs.Making.{makeNumber, makeLeft}
 use Rattle.reader.specs.declared.Verdict.{Verdict}
 use Rattle.reader.specs.declared.Verdict.the-variants.{Mended, Repeat}
-use Rattle.reader.specs.Judging.{verdict, left}
+use Rattle.reader.specs.Judging.{verdict, left, handed}
 use Rattle.phases.specs.declared.Phase.{Phase}
 use Rattle.phases.specs.declared.Phase.the-variants.{Collecting, Waiting}
 use Rattle.receiver.specs.declared.Judged.the-variants.{Block}
@@ -22,18 +22,22 @@ use Rattle.page.specs.Pages.{freshScreen}
 use Rattle.answers.specs.declared.Answer.the-variants.{Taken}
 use Rattle.screen.specs.Calls.{ran}
 
--- values and the block made of them; or a block that arrives, its verdict, and the block left; or what happens to a
--- new receiver, what goes out at each event, and the phase and number behind them; or values that a fresh screen takes,
--- all its cells then, and its cursor
+-- values and the block made of them; or a block that arrives, its verdict, the block left and what is handed back; or
+-- what happens to a new receiver, what goes out at each event, and the phase and number behind them; or values that a
+-- fresh screen takes, all its cells then, and its cursor
 pub data Card : Type 0 where
   made : List ℕ → List ℕ → Card
-  judged : List ℕ → Verdict → List ℕ → Card
+  judged : List ℕ → Verdict → List ℕ → List ℕ → Card
   heard : List Event → List Sent → Phase → ℕ → Card
   shown : List ℕ → List Cell → Place → Card
 
+-- what the maker is lent: one byte more than it may write, and none of them what it writes
+abbrev pub lent : List ℕ
+lent = replicate 18 255
+
 abbrev pub Holds : Card → Type 0
-Holds (made vs B) = blockOf vs ≡ B
-Holds (judged B v C) = (verdict B ≡ v) × (left B ≡ C)
+Holds (made vs B) = (makeNumber vs lent ≡ 0) × (makeLeft vs lent ≡ B ++ (255 ∷ []))
+Holds (judged B v C h) = (verdict B ≡ v) × (left B ≡ C) × (handed B ≡ h)
 Holds (heard es os p x) =
     (sent newReceiver es ≡ os) × (run newReceiver es .phase ≡ p) × (run newReceiver es .number ≡ x)
 Holds (shown vs cs x) =
@@ -77,12 +81,12 @@ abbrev pub blockCards : List Card
 blockCards =
     made (zeros 15) w1
     ∷ made (zeros 14 ++ (64 ∷ [])) w2
-    ∷ judged w3 (Mended 119) w2
-    ∷ judged w4 (Mended 120) w1
-    ∷ judged w5 Repeat w5
-    ∷ judged w6 Repeat w6
-    ∷ judged w7 Repeat w7
-    ∷ judged w8 Repeat w8
+    ∷ judged w3 (Mended 119) w2 (zeros 14 ++ (192 ∷ []))
+    ∷ judged w4 (Mended 120) w1 (zeros 15)
+    ∷ judged w5 Repeat w5 []
+    ∷ judged w6 Repeat w6 []
+    ∷ judged w7 Repeat w7 []
+    ∷ judged w8 Repeat w8 []
     ∷ []
 
 -- "W5 as first block", and the request 149, 192

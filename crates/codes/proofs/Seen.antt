@@ -1,7 +1,7 @@
 -- The codes carry parity, and counting the synchronising ones to two is looking at the last three bytes. Assumes
 -- nothing.
 use mathlib.Core.Path.{_≡_, refl, sym, ap, ap₂, _∙_, subst, subst⁻¹}
-use mathlib.Core.Bool.{Bool, true, false, cond, _&&_, not}
+use mathlib.Core.Bool.{Bool, true, false, cond, not}
 use mathlib.Core.List.{List, [], _∷_, _++_, append-assoc, append-nil}
 use mathlib.Core.Logic.{_⊎_, inl, inr}
 use Prim.Native.Nat.{ℕ, zero, suc, _+_, _%_, _<_}
@@ -9,14 +9,14 @@ use native.Mathlib.Nat.{mod-lt, zero-lt-suc}
 use native.Mathlib.Omega.{arith}
 use lib.Dec.{T, ltb, eqb}
 use lib.ListN.{replicate}
-use borrow.Author.Tests.{le-ltb, ltb-true, eq-eqb, eqb-true}
-use Rattle.laws.proofs.Computed.{and-left, and-right, both, is-true, holds, fails, below, at}
+use borrow.Author.Tests.{le-ltb, ltb-true, eq-eqb, ne-eqb, eqb-true, eqb-false}
+use Rattle.laws.proofs.Computed.{below, at}
 use Rattle.laws.proofs.Lists.{nil-cons, snoc-inj, beginning}
 use Rattle.division.specs.Division.{lowBits}
-use Rattle.parity.specs.Parity.{ones, even, withParity}
+use Rattle.parity.specs.Parity.{ones, withParity}
 use Rattle.codes.specs.declared.Listened.{Listened}
 use Rattle.codes.specs.declared.Listened.the-variants.{Seen, Resumed}
-use Rattle.codes.specs.Codes.{plainly, syn, nack, four, oneMore, listened, Ends, Nowhere}
+use Rattle.codes.specs.Codes.{syn, nack, four, oneMore, listened, Ends, Nowhere}
 
 -- ---- the codes
 
@@ -41,12 +41,55 @@ syn-four x e =
     subst (λ (t : Bool). T (not t)) (eq-eqb syn (four (x % 16)) (e ∙ four-row x))
     (at other 16 all-other (x % 16) (mod-lt x (zero-lt-suc 15)))
 
-pub plain-lt : (b : ℕ) → plainly b < 128
-plain-lt b = go (even b)
+-- ---- a byte while a block is awaited
+
+-- a SYN behind two leaves two
+two-more : (m : ℕ) → oneMore (oneMore m) ≡ 2
+two-more zero = refl
+two-more (suc zero) = refl
+two-more (suc (suc m)) =
+    ap oneMore (ap (λ (t : Bool). cond t (suc (suc m) + 1) 2) (le-ltb (suc (suc m)) 2 (omega arith)))
+
+-- a SYN counts
+after-syn : (x n : ℕ) → listened x n syn ≡ Seen (oneMore n)
+after-syn x n = refl
+
+-- behind two of them 4/X of the awaited number resumes, whichever it is
+after-two : (x : ℕ) → listened x 2 (four x) ≡ Resumed
+after-two x = simp (ne-eqb (four x) syn (λ e. syn-four x (sym e)), eq-eqb (four x) (four x) refl)
+
+-- and anything else is as though nothing had been seen
+after-other : (x n b : ℕ) → (b ≡ syn → ⊥) → (n ≡ 2 → b ≡ four x → ⊥) → listened x n b ≡ Seen 0
+after-other x n b ns nr = go (eqb n 2) refl
   where
-    go : (t : Bool) → cond t (b % 128) 127 < 128
-    go true = mod-lt b (zero-lt-suc 127)
-    go false = omega arith
+    go : (t : Bool) → eqb n 2 ≡ t → listened x n b ≡ Seen 0
+    go true e = simp (ne-eqb b syn ns, e, ne-eqb b (four x) (nr (eqb-true n 2 e)))
+    go false e = simp (ne-eqb b syn ns, e)
+
+data Listens (x n b : ℕ) : Listened → Type 0 where
+  synchronises : b ≡ syn → Listens x n b (Seen (oneMore n))
+  names : n ≡ 2 → b ≡ four x → Listens x n b Resumed
+  elsewise : (b ≡ syn → ⊥) → (n ≡ 2 → b ≡ four x → ⊥) → Listens x n b (Seen 0)
+
+listens : (x n b : ℕ) → Listens x n b (listened x n b)
+listens x n b = first (eqb b syn) refl
+  where
+    otherwise : (b ≡ syn → ⊥) → (n ≡ 2 → b ≡ four x → ⊥) → Listens x n b (listened x n b)
+    otherwise ns nr = subst⁻¹ (Listens x n b) (after-other x n b ns nr) (elsewise ns nr)
+
+    last : (t u : Bool) → eqb n 2 ≡ t → eqb b (four x) ≡ u → (b ≡ syn → ⊥) → Listens x n b (listened x n b)
+    last true true e f ns =
+        let p : n ≡ 2 = eqb-true n 2 e in
+        let q : b ≡ four x = eqb-true b (four x) f in
+        subst⁻¹ (Listens x n b) (ap₂ (listened x) p q ∙ after-two x) (names p q)
+    last true false e f ns = otherwise ns (λ p q. eqb-false b (four x) f q)
+    last false u e f ns = otherwise ns (λ p q. eqb-false n 2 e p)
+
+    first : (t : Bool) → eqb b syn ≡ t → Listens x n b (listened x n b)
+    first true e =
+        let p : b ≡ syn = eqb-true b syn e in
+        subst⁻¹ (Listens x n b) (ap (listened x n) p ∙ after-syn x n) (synchronises p)
+    first false e = last (eqb n 2) (eqb b (four x)) refl refl (eqb-false b syn e)
 
 -- ---- the codes seen at the end of bytes
 
@@ -122,12 +165,6 @@ two-at : (n : ℕ) (ws : List ℕ) → n ≡ 2 → Tail n ws → (us : List ℕ)
 unfolding Tail
 two-at n ws e t = subst (λ (m : ℕ). Tail m ws) e t
 
-two-more : (m : ℕ) → oneMore (oneMore m) ≡ 2
-two-more zero = refl
-two-more (suc zero) = refl
-two-more (suc (suc m)) =
-    ap oneMore (ap (λ (t : Bool). cond t (suc (suc m) + 1) 2) (le-ltb (suc (suc m)) 2 (omega arith)))
-
 two-seen : (us : List ℕ) → seenIn (us ++ (syn ∷ syn ∷ [])) ≡ 2
 unfolding seenIn from
 two-seen us = from-append 0 us (syn ∷ syn ∷ []) ∙ two-more (from 0 us)
@@ -154,36 +191,17 @@ Heard x ws b l =
     ⊎ ((Ends x (ws ++ (b ∷ [])) → ⊥) × (l ≡ Seen (seenIn (ws ++ (b ∷ [])))))
 
 pub heard : (x : ℕ) (ws : List ℕ) (b : ℕ) → Heard x ws b (listened x (seenIn ws) b)
-heard x ws b = first (eqb b syn) refl
+heard x ws b = go (listens x (seenIn ws) b)
   where
     counted : {t : Bool} → eqb b syn ≡ t → Seen (cond t (oneMore (seenIn ws)) 0) ≡ Seen (seenIn (ws ++ (b ∷ [])))
     counted e =
         ap Seen (ap (λ (t : Bool). cond t (oneMore (seenIn ws)) 0) (sym e) ∙ sym (seen-snoc ws b))
 
-    last : (t : Bool) → eqb b syn ≡ false → (eqb (seenIn ws) 2 && eqb b (four x)) ≡ t
-        → Heard x ws b (cond t Resumed (Seen 0))
-    last true ne e =
-        let s : T (eqb (seenIn ws) 2) = and-left (eqb (seenIn ws) 2) (eqb b (four x)) (holds e) in
-        let f : T (eqb b (four x)) = and-right (eqb (seenIn ws) 2) (eqb b (four x)) (holds e) in
-        inl (
-          last-ends x ws b (eqb-true (seenIn ws) 2 (is-true (eqb (seenIn ws) 2) s))
-              (eqb-true b (four x) (is-true (eqb b (four x)) f)),
-          refl,
-        )
-    last false ne e =
-        inr (
-          λ d. let p = ends-last x ws b d in
-              fails e
-              (both (eqb (seenIn ws) 2) (eqb b (four x)) (holds (eq-eqb (seenIn ws) 2 (p .0)))
-              (holds (eq-eqb b (four x) (p .1)))),
-          counted ne,
-        )
-
-    first : (t : Bool) → eqb b syn ≡ t
-        → Heard x ws b
-        (cond t (Seen (oneMore (seenIn ws))) (cond (eqb (seenIn ws) 2 && eqb b (four x)) Resumed (Seen 0)))
-    first true e = inr (λ d. syn-four x (sym (eqb-true b syn e) ∙ ends-last x ws b d .1), counted e)
-    first false e = last (eqb (seenIn ws) 2 && eqb b (four x)) e refl
+    go : {l : Listened} → Listens x (seenIn ws) b l → Heard x ws b l
+    go (synchronises e) = inr (λ d. syn-four x (sym e ∙ ends-last x ws b d .1), counted (eq-eqb b syn e))
+    go (names p q) = inl (last-ends x ws b p q, refl)
+    go (elsewise ns nr) =
+        inr (λ d. let p = ends-last x ws b d in nr (p .0) (p .1), counted (ne-eqb b syn ns))
 
 pub ended : (x : ℕ) (ws : List ℕ) (b : ℕ) → Ends x (ws ++ (b ∷ [])) → listened x (seenIn ws) b ≡ Resumed
 ended x ws b d = by (heard x ws b)
@@ -219,16 +237,13 @@ SeenBelow m (Seen n) = n < m
 SeenBelow m Resumed = Unit {0}
 
 pub listened-lt : (x n b : ℕ) → SeenBelow 3 (listened x n b)
-listened-lt x n b = first (eqb b syn)
+listened-lt x n b = go (listens x n b)
   where
     more : (t : Bool) → ltb n 2 ≡ t → cond t (n + 1) 2 < 3
     more true e = let h : n < 2 = ltb-true n 2 e in omega arith
     more false e = omega arith
 
-    last : (t : Bool) → SeenBelow 3 (cond t Resumed (Seen 0))
-    last true = tt
-    last false = omega arith
-
-    first : (t : Bool) → SeenBelow 3 (cond t (Seen (oneMore n)) (cond (eqb n 2 && eqb b (four x)) Resumed (Seen 0)))
-    first true = more (ltb n 2) refl
-    first false = last (eqb n 2 && eqb b (four x))
+    go : {l : Listened} → Listens x n b l → SeenBelow 3 l
+    go (synchronises e) = more (ltb n 2) refl
+    go (names p q) = tt
+    go (elsewise ns nr) = omega arith

@@ -13,6 +13,10 @@ use Rattle.codes.specs.declared.Listened.the-variants.{Seen, Resumed}
 abbrev pub plainly : ℕ → ℕ
 plainly b = cond (even b) (b % 128) 127
 
+-- "block number 0 to 15"
+abbrev pub numbers : List ℕ
+numbers = 0 ∷ 1 ∷ 2 ∷ 3 ∷ 4 ∷ 5 ∷ 6 ∷ 7 ∷ 8 ∷ 9 ∷ 10 ∷ 11 ∷ 12 ∷ 13 ∷ 14 ∷ 15 ∷ []
+
 -- "the number rises by one (15 becomes 0)"
 abbrev pub next : ℕ → ℕ
 next x = (x + 1) % 16

@@ -5,10 +5,12 @@
 pub use block_demands::demand_one::an_answer_is_told_in_one_way;
 pub use block_demands::demand_one::each_number_is_given_exactly_when;
 pub use block_demands::demand_one::refusals_leave_what_was_lent;
+pub use block_demands::demand_one::the_lowest_place_is_named;
 
 // the receiver: 5, and 0 also where a repeat is asked
 pub use line_demands::states::a_broken_state_is_handed_back;
 pub use line_demands::states::each_call_gives_its_number as each_call_of_a_receiver_gives_its_number;
+pub use line_demands::states::places_past_a_count_are_0;
 
 // the screen: 5 and 2
 pub use screen_demands::states::each_call_gives_its_number as each_call_of_a_screen_gives_its_number;

@@ -17,6 +17,7 @@ pub use line_demands::runs::places_past_the_held_never_matter;
 pub use line_demands::runs::switching_starts_afresh;
 pub use line_demands::runs::the_number_counts_accepted_blocks;
 pub use line_demands::runs::waiting_ends_at_the_first_resumption;
+pub use line_demands::runs::while_off_each_byte_passes_by_itself;
 
 // the screen
 pub use screen_demands::changes::a_c0_code_ends_a_sequence;

@@ -4,19 +4,20 @@ ghost use mathlib.Core.Path.{_≡_};
 ghost use mathlib.Core.Bool.{true, false};
 ghost use mathlib.Core.List.{List, [], _∷_, _++_, map};
 ghost use mathlib.Core.Logic.{_⊎_};
-ghost use Prim.Native.Nat.{ℕ, _+_, _*_, _%_, _<_};
+ghost use Prim.Native.Nat.{ℕ, _+_, _*_, _%_, _≤_, _<_};
 ghost use lib.ListN.{length, getD, take, drop, replicate};
 ghost use Rattle.values.specs.Large.{Values};
-ghost use Rattle.parity.specs.Parity.{withParity};
+ghost use Rattle.parity.specs.Parity.{even, withParity};
+ghost use Rattle.validity.specs.Block.{Valid};
 ghost use Rattle.validity.specs.Changed.{flip};
 ghost use Rattle.maker.specs.Making.{valuesOf};
 ghost use Rattle.reader.specs.declared.Verdict.the-variants.{Repeat};
-ghost use Rattle.reader.specs.Judging.{verdict};
+ghost use Rattle.reader.specs.Judging.{verdict, mendable};
 ghost use Rattle.reader.specs.Claims.{NoneNear, OnlyNear};
-ghost use Rattle.codes.specs.Codes.{syn, nack, four, request, Ends, Nowhere};
+ghost use Rattle.codes.specs.Codes.{numbers, syn, nack, four, request, Ends, Nowhere};
 ghost use Rattle.phases.specs.declared.Phase.the-variants.{Off, Collecting, Waiting};
 ghost use Rattle.receiver.specs.declared.Receiver.{Receiver};
-ghost use Rattle.receiver.specs.declared.Judged.the-variants.{Block};
+ghost use Rattle.receiver.specs.declared.Judged.the-variants.{Nothing, Block};
 ghost use Rattle.receiver.specs.States.{InRange, emptied, newReceiver};
 ghost use Rattle.receiver.specs.Calls.{silent, stepped, switchedOn, switchedOff, askedAgain};
 ghost use Rattle.receiver.specs.Runs.{Event, byte, on, obey, run, Sent, sentBy, sent, allPassed, allAsked};
@@ -24,7 +25,7 @@ ghost use Rattle.receiver.specs.Runs.{switches, unswitched, bytesOf, blocksIn, 
 ghost use Rattle.receiver.specs.Page.{passes, asks, atLast, whileWaiting, Stand, Course};
 ghost use Rattle.receiver.specs.Standing.{standOf, IsWaiting, Stands, askedIn};
 ghost use Rattle.receiver.specs.Alike.{Alike, AlikeSteps};
-ghost use Rattle.receiver.specs.Line.{blocksFor, madeOf, filled, joined, Arrives, Sending};
+ghost use Rattle.receiver.specs.Line.{blocksFor, madeOf, filled, joined, Arrives, Twice, Sending};
 
 // A run over some events and then others is the run over the first, then over the others; what goes out is joined.
 pub fn a_run_is_the_run_over_its_parts()
@@ -43,10 +44,26 @@ pub fn the_number_counts_accepted_blocks()
         → obey e r .next .number ≡ (r .number + blocksIn (sentBy (obey e r))) % 16) ⌝ }
 {}
 
+// Off, a value with parity passes as that value, and a byte of odd parity as 7/F; nothing else goes out, and the state
+// stays.
+pub fn while_off_each_byte_passes_by_itself()
+    ensures { λ _. ⌜ ((r : Receiver) → InRange r → r .phase ≡ Off → (v : ℕ) → v < 128
+        → (stepped r (withParity v) .next ≡ r)
+        × (sentBy (stepped r (withParity v)) ≡ passes (v ∷ []) Nothing)) ⌝ }
+    ensures odd { λ _. ⌜ ((r : Receiver) → InRange r → r .phase ≡ Off → (b : ℕ) → even b ≡ false
+        → (stepped r b .next ≡ r) × (sentBy (stepped r b) ≡ passes (127 ∷ []) Nothing)) ⌝ }
+{}
+
 // At any call nothing is asked; or NACK and 4/X are, with parity, X the number awaited, which stays, and the receiver
-// waits. Asking again changes nothing, gives the request in waiting and nothing elsewhere.
+// waits. Asking again changes nothing, gives the request in waiting and nothing elsewhere. The sixteen requests are
+// written out, for the numbers 0 to 15.
 pub fn a_request_names_the_awaited_block()
     ensures codes { λ _. ⌜ (syn ≡ withParity 22) × (nack ≡ withParity 21) ⌝ }
+    ensures spelled { λ _. ⌜ map request numbers
+        ≡ (149 ∷ 192 ∷ []) ∷ (149 ∷ 65 ∷ []) ∷ (149 ∷ 66 ∷ []) ∷ (149 ∷ 195 ∷ [])
+        ∷ (149 ∷ 68 ∷ []) ∷ (149 ∷ 197 ∷ []) ∷ (149 ∷ 198 ∷ []) ∷ (149 ∷ 71 ∷ [])
+        ∷ (149 ∷ 72 ∷ []) ∷ (149 ∷ 201 ∷ []) ∷ (149 ∷ 202 ∷ []) ∷ (149 ∷ 75 ∷ [])
+        ∷ (149 ∷ 204 ∷ []) ∷ (149 ∷ 77 ∷ []) ∷ (149 ∷ 78 ∷ []) ∷ (149 ∷ 207 ∷ []) ∷ [] ⌝ }
     ensures { λ _. ⌜ ((r : Receiver) → InRange r → (e : Event) → (sentBy (obey e r) .asked ≡ [])
         ⊎ ((sentBy (obey e r) .asked ≡ request (r .number)) × (obey e r .next .number ≡ r .number)
         × IsWaiting (obey e r .next))) ⌝ }
@@ -102,32 +119,39 @@ pub fn places_past_the_held_never_matter()
 
 // The line whole. Any values are cut into fifteens and made into blocks; a receiver just switched on hears them.
 // Each block hit at no bit or at one mendable bit: what passes is the values, filled up with NUL, and nothing is
-// asked. Block j the first that is hit at two bits: the blocks before it have passed and one request has gone out, for
-// j modulo 16, whatever arrives, until SYN, SYN, 4/j; then the blocks from j on pass, so that each has passed once,
-// and nothing more is asked. Lines that meet this exist: the made blocks themselves.
+// asked. For block j, the first of which that is not so, any seventeen bytes arrive near which no valid block is: the
+// blocks before it have passed and one request has gone out, for j modulo 16, whatever arrives, until SYN, SYN, 4/j;
+// then the blocks from j on pass, so that each has passed once, and nothing more is asked. What arrives until then must
+// nowhere spell SYN, SYN, 4/j itself: a block still on its way that did would end the waiting. Lines that meet this
+// exist: the made blocks themselves, each of them valid.
 pub fn the_line_comes_through_whole()
     ensures { λ _. ⌜ ((r : Receiver) → InRange r → (vs bs : List ℕ) → Values vs → Arrives (madeOf vs) bs
         → (allPassed (sent r (on ∷ map byte bs)) ≡ filled vs) × (allAsked (sent r (on ∷ map byte bs)) ≡ [])) ⌝ }
-    ensures asked { λ _. ⌜ ((vs : List ℕ) (j i k : ℕ) → Values vs → j < blocksFor vs → i < 136 → k < 136 → (i ≡ k → ⊥)
+    ensures asked { λ _. ⌜ ((vs : List ℕ) (j : ℕ) (hit : List ℕ) → Values vs → j < blocksFor vs
+        → length hit ≡ 17 → NoneNear hit
         → (before noise : List ℕ) → Arrives (take j (madeOf vs)) before → Nowhere (j % 16) noise
-        → (r : Receiver) → InRange r
-        → let hit = flip i (flip k (getD (madeOf vs) j [])) in let heard = before ++ hit ++ noise in
+        → (r : Receiver) → InRange r → let heard = before ++ hit ++ noise in
         (allPassed (sent r (on ∷ map byte heard)) ≡ take (15 * j) (filled vs))
         × (allAsked (sent r (on ∷ map byte heard)) ≡ request (j % 16))) ⌝ }
-    ensures once { λ _. ⌜ ((vs : List ℕ) (j i k : ℕ) → Values vs → j < blocksFor vs → i < 136 → k < 136 → (i ≡ k → ⊥)
+    ensures once { λ _. ⌜ ((vs : List ℕ) (j : ℕ) (hit : List ℕ) → Values vs → j < blocksFor vs
+        → length hit ≡ 17 → NoneNear hit
         → (before noise : List ℕ) → Arrives (take j (madeOf vs)) before → Nowhere (j % 16) noise
         → (r : Receiver) → InRange r → (after : List ℕ) → Arrives (drop j (madeOf vs)) after
-        → let hit = flip i (flip k (getD (madeOf vs) j [])) in
-        let heard = before ++ hit ++ noise ++ (syn ∷ syn ∷ four (j % 16) ∷ after) in
+        → let heard = before ++ hit ++ noise ++ (syn ∷ syn ∷ four (j % 16) ∷ after) in
         (allPassed (sent r (on ∷ map byte heard)) ≡ filled vs)
         × (allAsked (sent r (on ∷ map byte heard)) ≡ request (j % 16))) ⌝ }
-    ensures met { λ _. ⌜ ((vs : List ℕ) → Arrives (madeOf vs) (joined (madeOf vs))) × ((x : ℕ) → Nowhere x []) ⌝ }
+    ensures met { λ _. ⌜ ((vs : List ℕ) → Arrives (madeOf vs) (joined (madeOf vs))) × ((x : ℕ) → Nowhere x [])
+        × ((vs : List ℕ) (j : ℕ) → Values vs → j < blocksFor vs → Valid (getD (madeOf vs) j [])) ⌝ }
 {}
 
-// However often a block is hit at two bits and sent again, whatever is on its way before the sender begins again: each
-// block passes once, in its order, and one request has gone out for each of those, naming it. So a resent block is
-// never taken for a new one.
+// However often a block is refused and sent again, whatever is on its way before the sender begins again, so long as
+// that nowhere spells SYN, SYN, 4/X of the awaited number: each block passes once, in its order, and one request has
+// gone out for each of those refused, naming it. So a resent block is never taken for a new one. A valid block hit at
+// any two different bits of all 136 is so refused, and one hit once at a bit that is not mendable.
 pub fn a_resent_block_passes_once()
     ensures { λ _. ⌜ ((r : Receiver) → InRange r → (vs bs qs : List ℕ) → Values vs → Sending 0 (madeOf vs) bs qs
         → (allPassed (sent r (on ∷ map byte bs)) ≡ filled vs) × (allAsked (sent r (on ∷ map byte bs)) ≡ qs)) ⌝ }
+    ensures twice { λ _. ⌜ ((W B : List ℕ) → Valid W → Twice W B → (length B ≡ 17) × NoneNear B) ⌝ }
+    ensures alone { λ _. ⌜ ((W : List ℕ) (k : ℕ) → Valid W → mendable ≤ k → k < 136
+        → (length (flip k W) ≡ 17) × NoneNear (flip k W)) ⌝ }
 {}

@@ -1,3 +1,4 @@
 pub mod Blocks
 pub mod Written
 pub mod Numbered
+pub mod Left

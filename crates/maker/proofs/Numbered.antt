@@ -1,5 +1,5 @@
--- The maker's number at each answer, what it tells and leaves by its number, and that it is told in one way.
--- Assumes nothing.
+-- The maker's number in each case, what it tells and leaves by its number, and that it is told in one way. Assumes
+-- nothing.
 use mathlib.Core.Path.{_≡_, refl, sym, ap, _∙_}
 use mathlib.Core.Bool.{cond}
 use mathlib.Core.List.{List, [], _∷_, _++_}
@@ -14,25 +14,22 @@ use Rattle.maker.specs.declared.Made.the-variants.{Taken, WrongLength, T
 use Rattle.maker.specs.Making.{blockOf, told, makeNumber, makeTold, makeLeft}
 
 module _ (vs O : List ℕ) where
-  -- ---- the number, test after test
+  -- ---- the number: taken first, then each refusal from the last to the first
+
+  pub room : (length vs ≡ 0 → ⊥) → length vs ≤ 15 → length vs ≤ firstLarge vs → 17 ≤ length O → makeNumber vs O ≡ 0
+  room some few small h = simp (ne-eqb _ _ some, le-ltb _ _ few, le-ltb _ _ small, le-ltb _ _ h)
+
+  pub short : (length vs ≡ 0 → ⊥) → length vs ≤ 15 → length vs ≤ firstLarge vs → length O < 17 → makeNumber vs O ≡ 4
+  short some few small h = simp (ne-eqb _ _ some, le-ltb _ _ few, le-ltb _ _ small, lt-ltb _ _ h)
+
+  pub large : (length vs ≡ 0 → ⊥) → length vs ≤ 15 → firstLarge vs < length vs → makeNumber vs O ≡ 2
+  large some few h = simp (ne-eqb _ _ some, le-ltb _ _ few, lt-ltb _ _ h)
+
+  pub many : (length vs ≡ 0 → ⊥) → 15 < length vs → makeNumber vs O ≡ 1
+  many some h = simp (ne-eqb _ _ some, lt-ltb _ _ h)
 
   pub none : length vs ≡ 0 → makeNumber vs O ≡ 1
   none h = simp (eq-eqb _ _ h)
-
-  module _ (some : length vs ≡ 0 → ⊥) where
-    pub many : 15 < length vs → makeNumber vs O ≡ 1
-    many h = simp (ne-eqb _ _ some, lt-ltb _ _ h)
-
-    module _ (few : length vs ≤ 15) where
-      pub large : firstLarge vs < length vs → makeNumber vs O ≡ 2
-      large h = simp (ne-eqb _ _ some, le-ltb _ _ few, lt-ltb _ _ h)
-
-      module _ (small : length vs ≤ firstLarge vs) where
-        pub short : length O < 17 → makeNumber vs O ≡ 4
-        short h = simp (ne-eqb _ _ some, le-ltb _ _ few, le-ltb _ _ small, lt-ltb _ _ h)
-
-        pub room : 17 ≤ length O → makeNumber vs O ≡ 0
-        room h = simp (ne-eqb _ _ some, le-ltb _ _ few, le-ltb _ _ small, le-ltb _ _ h)
 
   -- ---- what is left
 

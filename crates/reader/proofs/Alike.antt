@@ -1,34 +1,42 @@
 -- A valid block hit at any bits is judged as seventeen zeros hit at the same bits are. Assumes nothing.
-use mathlib.Core.Path.{_≡_, refl, sym, ap, ap₂, _∙_, subst}
-use mathlib.Core.Bool.{Bool, cond}
+use mathlib.Core.Path.{_≡_, sym, _∙_, subst, subst⁻¹}
 use mathlib.Core.List.{List, []}
 use mathlib.Core.Logic.{_↔_}
-use Prim.Native.Nat.{ℕ, zero, suc}
-use lib.Dec.{eqb}
+use Prim.Native.Nat.{ℕ}
+use lib.Dec.{T}
 use lib.ListN.{length, replicate}
 use Rattle.laws.proofs.Sums.{Sum, sum-one, sum-length, sum-nothing}
 use Rattle.validity.specs.Block.{valid, Valid}
-use Rattle.validity.specs.Changed.{hits}
+use Rattle.validity.specs.Changed.{flip, hits, Near, same, changed}
 use Rattle.validity.proofs.Validity.{valid-length}
 use Rattle.validity.proofs.Alike.{flip-alike, valid-alike, hits-sum}
 use Rattle.reader.specs.declared.Verdict.{Verdict}
 use Rattle.reader.specs.declared.Verdict.the-variants.{Clean, Mended, Repeat, WrongLength}
-use Rattle.reader.specs.Judging.{mendable, tryFrom, verdict, leftBy, left}
+use Rattle.reader.specs.Judging.{mendable, verdict, leftBy, left}
+use Rattle.reader.specs.Claims.{NoneNear, Right}
+use Rattle.reader.proofs.Verdicts.{is-right, right-is}
 
 -- what is added to a valid block, and the sum
 module _ {W B C : List ℕ} (v : Valid W) (s : Sum W B C) where
-  try-alike : (k n : ℕ) → tryFrom k n C ≡ tryFrom k n B
-  unfolding tryFrom
-  try-alike k zero = refl
-  try-alike k (suc n) =
-      ap₂ (λ (t : Bool) (w : Verdict). cond t (Mended k) w) (valid-alike (flip-alike s k) v) (try-alike (suc k) n)
+  -- what is right of the one is right of the other
+  valid-too : Valid B → Valid C
+  valid-too p = subst⁻¹ T (valid-alike s v) p
+
+  flipped-too : (k : ℕ) → valid (flip k C) ≡ valid (flip k B)
+  flipped-too k = valid-alike (flip-alike s k) v
+
+  none-too : NoneNear B → {D : List ℕ} → Near mendable C D → Valid D → ⊥
+  none-too f same w = f B same (subst T (valid-alike s v) w)
+  none-too f (changed k h) w = f (flip k B) (changed k h) (subst T (flipped-too k) w)
+
+  right-alike : (w : Verdict) → Right B w → Right C w
+  right-alike Clean p = valid-too p
+  right-alike (Mended k) p = (p .0, subst⁻¹ T (flipped-too k) (p .1))
+  right-alike Repeat p = (sum-length s ∙ p .0, λ D n w. none-too (p .1) n w)
+  right-alike WrongLength p = λ l. p (sym (sum-length s) ∙ l)
 
   verdict-alike : verdict C ≡ verdict B
-  unfolding verdict
-  verdict-alike =
-      ap (λ (n : ℕ). cond (eqb n 17) (cond (valid C) Clean (tryFrom 0 mendable C)) WrongLength) (sum-length s)
-      ∙ ap₂ (λ (t : Bool) (w : Verdict). cond (eqb (length B) 17) (cond t Clean w) WrongLength) (valid-alike s v)
-      (try-alike 0 mendable)
+  verdict-alike = right-is C (verdict B) (right-alike (verdict B) (is-right B))
 
   left-alike : (w : Verdict) → Sum W (leftBy w B) (leftBy w C)
   left-alike Clean = s

@@ -2,17 +2,20 @@
 use mathlib.Core.Path.{_≡_, refl, sym, ap, ap₂, _∙_, subst⁻¹}
 use mathlib.Core.Bool.{cond}
 use mathlib.Core.List.{List, [], _∷_}
-use Prim.Native.Nat.{ℕ}
+use Prim.Native.Nat.{ℕ, _<_}
+use native.Mathlib.Omega.{arith}
 use lib.Dec.{eqb}
-use lib.ListN.{length}
+use lib.ListN.{length, take}
 use Rattle.numbers.specs.Numbers.{Told}
+use Rattle.validity.specs.Block.{Valid}
+use Rattle.validity.specs.Changed.{flip}
 use Rattle.validity.proofs.Validity.{valid-length}
 use Rattle.validity.proofs.Alone.{flipped-length}
 use Rattle.reader.specs.declared.Verdict.{Verdict}
 use Rattle.reader.specs.declared.Verdict.the-variants.{Clean, Mended, Repeat, WrongLength}
-use Rattle.reader.specs.Judging.{verdict, told, judged, leftBy, left, handedBy, handed}
+use Rattle.reader.specs.Judging.{mendable, verdict, told, judged, leftBy, left, handedBy, handed, bitNamed}
 use Rattle.reader.specs.Claims.{Right}
-use Rattle.reader.proofs.Verdicts.{is-right}
+use Rattle.reader.proofs.Verdicts.{is-right, once-whole}
 
 -- ---- two verdicts that tell the same are the same: only one answer fits the promise
 
@@ -36,6 +39,22 @@ told-one v w e = sym (retold-told v) ∙ ap retold e ∙ retold-told w
 pub told-verdict : (B : List ℕ) (v : Verdict) → told v ≡ judged B → v ≡ verdict B
 unfolding judged
 told-verdict B v e = told-one v (verdict B) e
+
+-- ---- the bit that is named: the one mended, or 255
+
+pub bit-mended : (B : List ℕ) (k : ℕ) → verdict B ≡ Mended k → bitNamed (judged B) ≡ k
+unfolding judged
+bit-mended B k e = ap (λ (v : Verdict). bitNamed (told v)) e
+
+pub bit-none : (B : List ℕ) → ((k : ℕ) → verdict B ≡ Mended k → ⊥) → bitNamed (judged B) ≡ 255
+unfolding judged
+bit-none B ne = by (verdict B) refl
+  where
+    by : (v : Verdict) → verdict B ≡ v → bitNamed (told v) ≡ 255
+    by Clean e = refl
+    by (Mended k) e = absurd (ne k e)
+    by Repeat e = refl
+    by WrongLength e = refl
 
 -- ---- what is handed back
 
@@ -66,3 +85,21 @@ refused-whole B ne = by (verdict B) refl
       ap (λ (v : Verdict). leftBy v B) e,
       ap (λ (v : Verdict). handedBy v (leftBy v B)) e,
     )
+
+-- what is taken hands back the first fifteen bytes of the block left
+handed-by : (v : Verdict) (C : List ℕ) → told v .number ≡ 0 → handedBy v C ≡ take 15 C
+handed-by Clean C z = refl
+handed-by (Mended k) C z = refl
+handed-by Repeat C z = absurd (omega (arith, z))
+handed-by WrongLength C z = absurd (omega (arith, z))
+
+pub handed-first : (B : List ℕ) → judged B .number ≡ 0 → handed B ≡ take 15 (left B)
+unfolding judged left handed
+handed-first B z = handed-by (verdict B) (leftBy (verdict B) B) z
+
+-- so a valid block hit once among the mendable bits comes back whole to the caller too
+pub once-handed : (W : List ℕ) (k : ℕ) → Valid W → k < mendable → handed (flip k W) ≡ take 15 W
+unfolding judged
+once-handed W k v h =
+    let o = once-whole W k v h in
+    handed-first (flip k W) (ap (λ (w : Verdict). told w .number) (o .0)) ∙ ap (take 15) (o .1)

@@ -1,12 +1,13 @@
 -- The quick way to a verdict: one byte alone is odd, and the remainder points to a bit in it. Assumes nothing.
-use mathlib.Core.Path.{_≡_, sym, _∙_, subst}
-use mathlib.Core.Bool.{true, false}
+use mathlib.Core.Path.{_≡_, refl, sym, _∙_, subst⁻¹}
+use mathlib.Core.Bool.{Bool, true, false, not}
 use mathlib.Core.List.{List}
 use Prim.Native.Nat.{ℕ, _/_, _≤_, _<_}
 use native.Mathlib.Omega.{arith}
-use lib.Dec.{T}
+use lib.Dec.{T, eqb}
 use lib.ListN.{length, getD, take}
-use Rattle.laws.proofs.Computed.{fails, holds}
+use borrow.Author.Tests.{eqb-true}
+use Rattle.laws.proofs.Computed.{and-left, and-right, is-true, fails, holds}
 use Rattle.parity.specs.Parity.{even, odds}
 use Rattle.validity.specs.Block.{codeBits, remainder, Valid}
 use Rattle.validity.specs.Changed.{Near, same, changed}
@@ -18,6 +19,24 @@ use Rattle.validity.proofs.Odd.{Mends, mends-only, mends-where, none-odd, all-e
 use Rattle.reader.specs.declared.Verdict.the-variants.{Clean, Mended, Repeat}
 use Rattle.reader.specs.Judging.{mendable}
 use Rattle.reader.specs.Claims.{Right}
+use Rattle.reader.specs.Quick.{theOddOne}
+
+-- ---- the byte that alone is odd
+
+is-one : (n b : ℕ) → n ≡ 1 → even b ≡ false → theOddOne n b ≡ true
+is-one n b e f = simp (e, f)
+
+the-one : (n b : ℕ) → theOddOne n b ≡ true → (n ≡ 1) × (even b ≡ false)
+the-one n b e = (
+  eqb-true n 1 (is-true (eqb n 1) (and-left (eqb n 1) (not (even b)) (holds e))),
+  odd-byte (even b) (and-right (eqb n 1) (not (even b)) (holds e)),
+)
+  where
+    odd-byte : (t : Bool) → T (not t) → t ≡ false
+    odd-byte true h = absurd h
+    odd-byte false h = refl
+
+-- ---- verdicts
 
 module _ (B : List ℕ) (l : length B ≡ 17) where
   -- not valid as it stands, and no bit mends it
@@ -36,14 +55,11 @@ module _ (B : List ℕ) (l : length B ≡ 17) where
   pub clean : getD B 16 0 ≡ 0 → odds (take 16 B) ≡ 0 → remainder B ≡ 0 → Right B Clean
   clean z o r = is-valid B l (all-even (take 16 B) o) r z
 
-  -- not one byte alone is odd
-  pub not-one : (odds (take 16 B) ≡ 0 → remainder B ≡ 0 → ⊥) → (odds (take 16 B) ≡ 1 → ⊥) → Right B Repeat
-  not-one ne o =
-      repeated (λ v. ne (none-odd (take 16 B) (valid-even B v)) (valid-remainder B v)) (λ j h m. o (m .alone))
-
-  module _ (k : ℕ) (h : k < 128) (p : remainder (unit k) ≡ remainder B) (o : odds (take 16 B) ≡ 1) where
-    one-odd : Valid B → ⊥
-    one-odd v = omega (arith, o, none-odd (take 16 B) (valid-even B v))
+  -- not clean, and the remainder points to bit k
+  module _ (ne : odds (take 16 B) ≡ 0 → remainder B ≡ 0 → ⊥) (k : ℕ) (h : k < 128)
+      (p : remainder (unit k) ≡ remainder B) where
+    not-valid : Valid B → ⊥
+    not-valid v = ne (none-odd (take 16 B) (valid-even B v)) (valid-remainder B v)
 
     -- the only bit that could mend is the one pointed to
     only-there : (j : ℕ) → j < mendable → Mends j B → k ≡ j
@@ -51,17 +67,23 @@ module _ (B : List ℕ) (l : length B ≡ 17) where
 
     -- it is no mendable bit
     pub not-mendable : mendable ≤ k → Right B Repeat
-    not-mendable g = repeated one-odd (λ j i m. omega (arith, g, i, only-there j i m))
+    not-mendable g = repeated not-valid (λ j i m. omega (arith, g, i, only-there j i m))
 
-    -- it lies in an even byte
-    pub elsewhere : even (getD B (k / 8) 0) ≡ true → Right B Repeat
+    -- it does not lie in a byte that alone is odd
+    pub elsewhere : theOddOne (odds (take 16 B)) (getD B (k / 8) 0) ≡ false → Right B Repeat
     elsewhere e =
-        repeated one-odd
-        (λ j i m. fails (m .inside) (subst (λ (n : ℕ). T (even (getD B (n / 8) 0))) (only-there j i m) (holds e)))
+        repeated not-valid
+        (λ j i m.
+        fails e
+        (holds (is-one (odds (take 16 B)) (getD B (k / 8) 0) (m .alone)
+        (subst⁻¹ (λ (n : ℕ). even (getD B (n / 8) 0) ≡ false) (only-there j i m) (m .inside)))))
 
-    -- it lies in the odd one
-    pub mended : getD B 16 0 ≡ 0 → k < mendable → even (getD B (k / 8) 0) ≡ false → Right B (Mended k)
-    mended z g e = (g, mends-where k B h l (record { validation = z; alone = o; inside = e; pointed = p }))
+    -- it does
+    pub mended : getD B 16 0 ≡ 0 → k < mendable → theOddOne (odds (take 16 B)) (getD B (k / 8) 0) ≡ true
+        → Right B (Mended k)
+    mended z g e =
+        let o = the-one (odds (take 16 B)) (getD B (k / 8) 0) e in
+        (g, mends-where k B h l (record { validation = z; alone = o .0; inside = o .1; pointed = p }))
 
 -- the mendable bits are the code bits
 pub mendable-is : (B : List ℕ) → length B ≡ 17 → length (codeBits B) ≡ mendable

@@ -148,20 +148,37 @@ near-only W v (changed k h) =
     (handed-on (flip k W) (flip-length k W ∙ valid-length W v)
     (λ e. omega (arith, ap (λ (w : Verdict). told w .number) (sym (o .0) ∙ e))))
 
--- one hit at any two different bits of all 136 is refused, and left as it came
-pub twice-refused : (W : List ℕ) (i j : ℕ) → Valid W → i < 136 → j < 136 → (i ≡ j → ⊥)
-    → (verdict (flip i (flip j W)) ≡ Repeat) × (left (flip i (flip j W)) ≡ flip i (flip j W))
+-- what no valid block is near is refused, and left as it came
+refused-left : (B : List ℕ) → (length B ≡ 17) × NoneNear B → (verdict B ≡ Repeat) × (left B ≡ B)
 unfolding left
-twice-refused W i j v hi hj ne = (e, ap (λ (w : Verdict). leftBy w (flip i (flip j W))) e)
+refused-left B n =
+    let e : verdict B ≡ Repeat = asked-when-none B (n .0) .1 (n .1) in (e, ap (λ (w : Verdict). leftBy w B) e)
+
+-- none is near one hit at any two different bits of all 136
+pub twice-none : (W : List ℕ) (i j : ℕ) → Valid W → i < 136 → j < 136 → (i ≡ j → ⊥)
+    → (length (flip i (flip j W)) ≡ 17) × NoneNear (flip i (flip j W))
+twice-none W i j v hi hj ne = (flip-length i (flip j W) ∙ flip-length j W ∙ valid-length W v, λ C n w. go n w)
   where
     go : {C : List ℕ} → Near mendable (flip i (flip j W)) C → Valid C → ⊥
     go same w = hit-twice i j W hi hj ne v w
     go (changed k h) w = hit-thrice k i j W (omega (arith, h)) hi hj v w
 
-    e : verdict (flip i (flip j W)) ≡ Repeat
-    e =
-        asked-when-none (flip i (flip j W)) (flip-length i (flip j W) ∙ flip-length j W ∙ valid-length W v) .1
-        (λ C n w. go n w)
+pub twice-refused : (W : List ℕ) (i j : ℕ) → Valid W → i < 136 → j < 136 → (i ≡ j → ⊥)
+    → (verdict (flip i (flip j W)) ≡ Repeat) × (left (flip i (flip j W)) ≡ flip i (flip j W))
+twice-refused W i j v hi hj ne = refused-left (flip i (flip j W)) (twice-none W i j v hi hj ne)
+
+-- nor one hit once at a bit that is not mendable
+pub once-none : (W : List ℕ) (k : ℕ) → Valid W → mendable ≤ k → k < 136
+    → (length (flip k W) ≡ 17) × NoneNear (flip k W)
+once-none W k v g hk = (flip-length k W ∙ valid-length W v, λ C n w. go n w)
+  where
+    go : {C : List ℕ} → Near mendable (flip k W) C → Valid C → ⊥
+    go same w = hit-once k W hk v w
+    go (changed j h) w = hit-twice j k W (omega (arith, h)) hk (λ (q : j ≡ k). omega (arith, q, h, g)) v w
+
+pub once-refused : (W : List ℕ) (k : ℕ) → Valid W → mendable ≤ k → k < 136
+    → (verdict (flip k W) ≡ Repeat) × (left (flip k W) ≡ flip k W)
+once-refused W k v g hk = refused-left (flip k W) (once-none W k v g hk)
 
 -- hit an odd number of times it is never clean, and hit an even number of times never mended
 pub odd-not-clean : (W ks : List ℕ) → Valid W → Places ks → length ks % 2 ≡ 1 → verdict (hits ks W) ≡ Clean → ⊥

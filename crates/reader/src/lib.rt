@@ -7,6 +7,7 @@
 // 3; proofs/Alike shows that hits are judged alike in every valid block.
 ghost use mathlib.Core.Path.{_≡_};
 ghost use Rattle.reader.specs.Judging.{judged, left, told};
+ghost use Rattle.reader.specs.Quick.{theOddOne};
 
 pub enum Verdict {
     Clean,
@@ -14,6 +15,16 @@ pub enum Verdict {
     Mended(u8),
     Repeat,
     WrongLength,
+}
+
+// Whether a byte is the odd one: one alone is odd, and it is this one.
+fn is_the_odd_one(odd: usize, byte: u8) -> bool
+    ensures { λ r. ⌜ r ≡ theOddOne odd byte ⌝ }
+{
+    if odd != 1 {
+        return false;
+    }
+    !parity::is_even(byte)
 }
 
 // A block judged in place, of any length: the verdict, and the block as it is left. One changed bit turns the
@@ -34,15 +45,12 @@ pub fn mend(block: &mut [u8]) -> Verdict
     if odd == 0 && r == 0 {
         return Verdict::Clean;
     }
-    if odd != 1 {
-        return Verdict::Repeat;
-    }
     let k = places::place(r);
     if 127 <= k {
         return Verdict::Repeat;
     }
     let at = (k / 8) as usize;
-    if parity::is_even(block[at]) {
+    if !is_the_odd_one(odd, block[at]) {
         return Verdict::Repeat;
     }
     validity::flip(block, k as usize);

@@ -1,4 +1,4 @@
--- What passes and is asked over bytes: made blocks, a block hit twice, and whatever arrives before the sender begins
+-- What passes and is asked over bytes: made blocks, one that is refused, and whatever arrives before the sender begins
 -- again. Assumes nothing.
 use mathlib.Core.Path.{_≡_, refl, sym, ap, ap₂, _∙_, subst, subst⁻¹}
 use mathlib.Core.Bool.{true}
@@ -8,14 +8,15 @@ use native.Mathlib.Nat.{mod-lt, zero-lt-suc}
 use native.Mathlib.Omega.{arith}
 use lib.ListN.{length}
 use Rattle.values.specs.Large.{Values}
-use Rattle.validity.specs.Changed.{flip, Near, same, changed}
+use Rattle.validity.specs.Changed.{Near, same, changed}
 use Rattle.validity.specs.Block.{Valid}
 use Rattle.validity.proofs.Flips.{flip-length}
 use Rattle.validity.proofs.Validity.{valid-length}
 use Rattle.maker.specs.Making.{blockOf, valuesOf}
 use Rattle.maker.proofs.Blocks.{made-valid, values-back}
 use Rattle.reader.specs.Judging.{mendable}
-use Rattle.reader.proofs.Verdicts.{near-only, asked-when-none, twice-refused}
+use Rattle.reader.specs.Claims.{NoneNear}
+use Rattle.reader.proofs.Verdicts.{near-only}
 use Rattle.codes.specs.Codes.{syn, four, request, Nowhere}
 use Rattle.codes.proofs.Numbered.{counted}
 use Rattle.codes.proofs.Seen.{seen-syns, nowhere-syn}
@@ -97,14 +98,12 @@ blocks-heard (us ∷ uss) x c h (blockThen {B = B} {bs = bs} n a) =
     subst (λ (m : ℕ). Hears (emptied x Collecting) (B ++ bs) (values (us ∷ uss)) [] (emptied m Collecting))
     (counted x (length uss)) i
 
--- ---- a block hit twice
+-- ---- one that is refused
 
-pub twice-heard : (W : List ℕ) (i k x : ℕ) → Valid W → i < 136 → k < 136 → (i ≡ k → ⊥) → x < 16
-    → Hears (emptied x Collecting) (flip i (flip k W)) [] (request x) (emptied x (Waiting 0))
-twice-heard W i k x v hi hk ne h =
-    let l : length (flip i (flip k W)) ≡ 17 = flip-length i (flip k W) ∙ flip-length k W ∙ valid-length W v in
-    let p = block-asked x (flip i (flip k W)) h l
-    (asked-when-none (flip i (flip k W)) l .0 (twice-refused W i k v hi hk ne .0)) in
+pub refused-heard : (B : List ℕ) (x : ℕ) → length B ≡ 17 → NoneNear B → x < 16
+    → Hears (emptied x Collecting) B [] (request x) (emptied x (Waiting 0))
+refused-heard B x l n h =
+    let p = block-asked x B h l n in
     record { passed = ap allPassed (p .1); asked = ap allAsked (p .1); after = p .0 }
 
 -- ---- bytes while waiting

@@ -30,7 +30,7 @@ pub emptied-in : (x : ℕ) (p : Phase) → x < 16 → seenInRange p ≡ true →
 emptied-in x p h s = record { range = in-range (emptied x p) h (omega arith) s; array = refl }
 
 pub new-in : InRange newReceiver
-new-in = emptied-in 0 Off (omega arith) refl
+new-in = emptied-in _ _ (omega arith) refl
 
 listened-in : (r : Receiver) (x n b : ℕ) → InRange r → InRange (listening (listened x n b) r)
 listened-in r x n b g = by (listened x n b) (listened-lt x n b)
@@ -51,8 +51,9 @@ byte-keeps r b g (more f k) =
       array = length-set (r .held) (r .count) b ∙ g .array;
     }
 byte-keeps r b g (took f k C o) =
-    emptied-in ((r .number + 1) % 16) Collecting (mod-lt (r .number + 1) (zero-lt-suc 15)) refl
-byte-keeps r b g (none f k o) = emptied-in (r .number) (Waiting 0) (number-in r (g .range)) refl
+    emptied-in _ _ (mod-lt (r .number + 1) (zero-lt-suc 15)) refl
+byte-keeps r b g (none f k o) =
+    let h : r .number < 16 = number-in r (g .range) in emptied-in _ _ (omega arith) refl
 byte-keeps r b g (listens n f) = listened-in r (r .number) n b g
 
 -- ---- the calls of the host
@@ -86,7 +87,8 @@ pub keeps : (e : Event) (r : Receiver) → InRange r → InRange (obey e r .next
 keeps (byte b) r g = byte-keeps r b g (shape r b g)
 keeps on r g =
     subst⁻¹ (λ (s : Stepped). InRange (s .next)) (on-afresh r g) (emptied-in 0 Collecting (omega arith) refl)
-keeps off r g = subst⁻¹ (λ (s : Stepped). InRange (s .next)) (off-afresh r g) new-in
+keeps off r g =
+    subst⁻¹ (λ (s : Stepped). InRange (s .next)) (off-afresh r g) (emptied-in 0 Off (omega arith) refl)
 keeps ask r g = subst⁻¹ InRange (again-same r) g
 
 pub runs-keep : (es : List Event) (r : Receiver) → InRange r → InRange (run r es)

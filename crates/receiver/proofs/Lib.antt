@@ -3,6 +3,8 @@ pub mod Cases
 pub mod Shape
 pub mod Kept
 pub mod Outgoing
+pub mod Padding
+pub mod WhileOff
 pub mod Counted
 pub mod Asked
 pub mod Followed

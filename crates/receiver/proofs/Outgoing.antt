@@ -15,7 +15,7 @@ use Rattle.reader.specs.declared.Verdict.{Verdict}
 use Rattle.reader.specs.Judging.{verdict, left}
 use Rattle.reader.specs.Claims.{OnlyNear}
 use Rattle.codes.specs.Codes.{plainly}
-use Rattle.codes.proofs.Seen.{plain-lt}
+use Rattle.codes.proofs.Removed.{plain-lt}
 use Rattle.phases.specs.Phases.{awaitsMore}
 use Rattle.phases.specs.declared.Phase.{Phase}
 use Rattle.phases.specs.declared.Phase.the-variants.{Off, Collecting, Waiting}
@@ -26,7 +26,7 @@ use Rattle.receiver.specs.States.{inRange, InRange, emptied, callConditi
 use Rattle.receiver.specs.Calls.{silent, refused, holding, whole, accepted, repeated, accepts, judgedHeld}
 use Rattle.receiver.specs.Calls.{byPhase, againBy}
 use Rattle.receiver.specs.Runs.{Event, byte, on, off, ask, obey, Sent, sentBy}
-use Rattle.receiver.specs.Page.{passes}
+use Rattle.receiver.specs.Page.{nothing, passes}
 use Rattle.receiver.proofs.Shape.{Shape, plain, more, took, none, listens, shape, arrived}
 use Rattle.receiver.proofs.Kept.{on-afresh, off-afresh, again-as}
 
@@ -55,6 +55,13 @@ obeys ask r = refl
 
 pub refuses : (e : Event) (r : Receiver) → inRange r ≡ false → obey e r ≡ refused r
 refuses e r f = obeys e r ∙ ap (λ (t : Bool). cond t (unbroken e r) (refused r)) f
+
+-- that state, 5, and nothing else
+pub handed-back : (e : Event) (r : Receiver) → inRange r ≡ false
+    → (obey e r .next ≡ r) × (obey e r .answer ≡ 5) × (sentBy (obey e r) ≡ nothing)
+handed-back e r f =
+    let p = refuses e r f in
+    (ap (λ (s : Stepped). s .next) p, ap (λ (s : Stepped). s .answer) p, ap sentBy p)
 
 either-way : (t : Bool) (s u : Stepped) → s .answer ≡ 0 → u .answer ≡ 0 → cond t s u .answer ≡ 0
 either-way true s u p q = p

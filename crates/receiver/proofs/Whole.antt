@@ -1,18 +1,18 @@
--- The line whole: made blocks come through, and however often one is hit twice and sent again, each passes once.
+-- The line whole: made blocks come through, and however often one is refused and sent again, each passes once.
 -- Assumes nothing.
 use mathlib.Core.Path.{_≡_, refl, sym, ap, _∙_, subst, subst⁻¹}
-use mathlib.Core.List.{List, [], _∷_, _++_, map, append-assoc, append-nil, head-eq-of-cons-eq}
+use mathlib.Core.List.{List, [], _∷_, _++_, map, append-assoc, append-nil}
 use Prim.Native.Nat.{ℕ, _+_, _*_, _%_, _<_}
 use native.Mathlib.Nat.{mod-lt, zero-lt-suc}
 use native.Mathlib.Omega.{arith}
 use lib.ListN.{length, getD, take, drop, length-map}
 use lib.Seq.{length-take-le, take-at, drop-at, split-at, drop-cons}
-use Rattle.laws.proofs.Lists.{nil-cons}
 use Rattle.values.specs.Large.{Values}
-use Rattle.validity.specs.Changed.{flip, same}
+use Rattle.validity.specs.Changed.{same}
 use Rattle.validity.specs.Block.{Valid}
 use Rattle.maker.specs.Making.{blockOf}
-use Rattle.maker.proofs.Blocks.{made-valid}
+use Rattle.reader.specs.Claims.{NoneNear}
+use Rattle.reader.proofs.Verdicts.{twice-none}
 use Rattle.codes.specs.Codes.{syn, four, request, Nowhere}
 use Rattle.phases.specs.declared.Phase.the-variants.{Collecting, Waiting}
 use Rattle.receiver.specs.declared.Receiver.{Receiver}
@@ -25,7 +25,7 @@ use Rattle.receiver.specs.Line.{blockThen}
 use Rattle.receiver.proofs.Kept.{on-afresh}
 use Rattle.receiver.proofs.Fifteens.{Cut, values, cut, cut-take, cut-drop, block-valid, fifteens-length}
 use Rattle.receiver.proofs.Fifteens.{map-take, map-drop, values-filled, first-values, both-values}
-use Rattle.receiver.proofs.Heard.{Hears, behind, blocks-heard, twice-heard, noise-heard}
+use Rattle.receiver.proofs.Heard.{Hears, behind, blocks-heard, refused-heard, noise-heard}
 use Rattle.receiver.proofs.Heard.{resumption-heard}
 
 -- heard by a receiver just switched on
@@ -37,7 +37,7 @@ module _ (r : Receiver) (g : InRange r) where
       ap (λ (c : Stepped). sentBy c ∷ sent (c .next) (map byte bs)) (on-afresh r g) in
       (ap allPassed e ∙ k .passed, ap allAsked e ∙ k .asked)
 
--- ---- however often a block is hit at two bits
+-- ---- however often a block is refused
 
 -- what the sender begins again with
 abbrev again : ℕ → List ℕ → List ℕ
@@ -62,15 +62,6 @@ all-values j uss =
     (append-nil (values (take j uss) ++ []) ∙ append-nil (values (take j uss)))
     ∙ both-values j uss
 
-twice-asked : {W B : List ℕ} (x : ℕ) → Valid W → x < 16 → Twice W B
-    → Hears (emptied x Collecting) B [] (request x) (emptied x (Waiting 0))
-twice-asked {W} x v h (twice i k hi hk ne) = twice-heard W i k x v hi hk ne h
-
--- the block that begins what is left of made ones is valid
-first-valid : (uss : List (List ℕ)) {W : List ℕ} {Ws : List (List ℕ)} → Cut uss → W ∷ Ws ≡ map blockOf uss → Valid W
-first-valid [] c e = absurd (nil-cons (sym e))
-first-valid (us ∷ uss) c e = subst⁻¹ Valid (head-eq-of-cons-eq e) (made-valid us (c .0))
-
 sending-heard : {x : ℕ} {Vs : List (List ℕ)} {bs qs : List ℕ} (uss : List (List ℕ)) → Cut uss → x < 16
     → Vs ≡ map blockOf uss → Sending x Vs bs qs → (q : Receiver) × Hears (emptied x Collecting) bs (values uss) qs q
 sending-heard {x} uss c h e (through {bs = bs} a) = (
@@ -78,7 +69,7 @@ sending-heard {x} uss c h e (through {bs = bs} a) = (
   blocks-heard uss x c h (subst (λ (Ws : List (List ℕ)). Arrives Ws bs) e a),
 )
 sending-heard {x} uss c h e
-    (resent {Us = Us} {Ws = Ws} {W = W} {B = B} {before = before} {noise = noise} {bs = bs} a t n s) =
+    (resent {Us = Us} {Ws = Ws} {W = W} {B = B} {before = before} {noise = noise} {bs = bs} a l m n s) =
     let j : ℕ = length Us in
     let y : ℕ = (x + j) % 16 in
     let y-in : y < 16 = mod-lt (x + j) (zero-lt-suc 15) in
@@ -93,9 +84,8 @@ sending-heard {x} uss c h e
     (blocks-heard (take j uss) x (cut-take j uss c) h
     (subst (λ (Us : List (List ℕ)). Arrives Us before) first a)) in
     let went = sending-heard (drop j uss) (cut-drop j uss c) y-in others s in
-    let v : Valid W = first-valid (drop j uss) (cut-drop j uss c) others in
     let all = behind (before ++ B ++ again y noise) bs
-    (behind (before ++ B) (again y noise) (behind before B came (twice-asked y v y-in t))
+    (behind (before ++ B) (again y noise) (behind before B came (refused-heard B y l m y-in))
     (resumption-heard y y-in noise n))
     (went .1) in
     (went .0, recast (again-is y (before ++ B) noise bs) (all-values j uss) all)
@@ -113,15 +103,12 @@ pub line-whole : (r : Receiver) → InRange r → (vs bs : List ℕ) → Values 
     → (allPassed (sent r (on ∷ map byte bs)) ≡ filled vs) × (allAsked (sent r (on ∷ map byte bs)) ≡ [])
 line-whole r g vs bs f a = sending r g vs bs [] f (through a)
 
--- ---- block j is the first that is hit at two bits
+-- ---- block j is the first that is refused
 
-module _ (vs : List ℕ) (j i k : ℕ) (f : Values vs) (jn : j < blocksFor vs) (hi : i < 136) (hk : k < 136)
-    (ne : i ≡ k → ⊥) where
+module _ (vs : List ℕ) (j : ℕ) (hit : List ℕ) (f : Values vs) (jn : j < blocksFor vs) (long : length hit ≡ 17)
+    (far : NoneNear hit) where
   abbrev uss : List (List ℕ)
   uss = fifteens (blocksFor vs) vs
-
-  abbrev hit : List ℕ
-  hit = flip i (flip k (getD (madeOf vs) j []))
 
   x-lt : j % 16 < 16
   x-lt = mod-lt j (zero-lt-suc 15)
@@ -144,9 +131,7 @@ module _ (vs : List ℕ) (j i k : ℕ) (f : Values vs) (jn : j < blocksFor vs) (
     hit-heard :
         Hears (emptied 0 Collecting) (before ++ hit) (values (take j uss) ++ []) (request (j % 16))
         (emptied (j % 16) (Waiting 0))
-    hit-heard =
-        behind before hit first-heard
-        (twice-heard (getD (madeOf vs) j []) i k (j % 16) (block-valid j uss uss-cut uss-long) hi hk ne x-lt)
+    hit-heard = behind before hit first-heard (refused-heard hit (j % 16) long far x-lt)
 
     first-passed : values (take j uss) ++ [] ++ [] ≡ take (15 * j) (filled vs)
     first-passed =
@@ -178,10 +163,20 @@ module _ (vs : List ℕ) (j i k : ℕ) (f : Values vs) (jn : j < blocksFor vs) (
         × (allAsked (sent r (on ∷ map byte (begunAgain x after))) ≡ request x)) e
         (sending r g vs (begunAgain y after) (request y) f
         (subst⁻¹ (λ (Us : List (List ℕ)). Sending 0 Us (begunAgain y after) (request y)) (split-at Ws j [] h)
-        (resent ab (twice i k hi hk ne) (subst⁻¹ (λ (x : ℕ). Nowhere x noise) e none)
+        (resent ab long far (subst⁻¹ (λ (x : ℕ). Nowhere x noise) e none)
         (through (subst (λ (Us : List (List ℕ)). Arrives Us after) (drop-cons Ws j [] h) aa)))))
 
 -- ---- such lines exist
+
+-- every made block is valid
+pub made-at : (vs : List ℕ) (j : ℕ) → Values vs → j < blocksFor vs → Valid (getD (madeOf vs) j [])
+made-at vs j f h =
+    block-valid j (fifteens (blocksFor vs) vs) (cut (blocksFor vs) vs f)
+    (subst⁻¹ (λ (n : ℕ). j < n) (fifteens-length (blocksFor vs) vs) h)
+
+-- and hit at two bits it is refused
+pub twice-far : (W B : List ℕ) → Valid W → Twice W B → (length B ≡ 17) × NoneNear B
+twice-far W B v (twice i k hi hk ne) = twice-none W i k v hi hk ne
 
 -- blocks that are not hit
 pub unhit : (Ws : List (List ℕ)) → Arrives Ws (joined Ws)

@@ -6,6 +6,7 @@ use lib.ListN.{length, take, drop, replicate}
 use Rattle.validity.specs.Changed.{flip, Near}
 use Rattle.maker.specs.Making.{blockOf}
 use Rattle.reader.specs.Judging.{mendable}
+use Rattle.reader.specs.Claims.{NoneNear}
 use Rattle.codes.specs.Codes.{syn, four, request, Nowhere}
 
 -- how many blocks the values take
@@ -36,7 +37,7 @@ pub data Arrives : List (List ℕ) → List ℕ → Type 0 where
   blockThen : {W B : List ℕ} {Ws : List (List ℕ)} {bs : List ℕ} → Near mendable W B → Arrives Ws bs
       → Arrives (W ∷ Ws) (B ++ bs)
 
--- a block as it arrives hit at two different bits of all 136
+-- a block as it arrives hit at two different bits of all 136: one of the ways in which none is left near it
 pub data Twice (W : List ℕ) : List ℕ → Type 0 where
   twice : (i k : ℕ) → i < 136 → k < 136 → (i ≡ k → ⊥) → Twice W (flip i (flip k W))
 
@@ -45,8 +46,9 @@ pub data Twice (W : List ℕ) : List ℕ → Type 0 where
 pub data Sending : ℕ → List (List ℕ) → List ℕ → List ℕ → Type 0 where
   -- all of them come through
   through : {x : ℕ} {Ws : List (List ℕ)} {bs : List ℕ} → Arrives Ws bs → Sending x Ws bs []
-  -- some do, the next is hit at two bits, whatever is on its way arrives, and the sender begins again with that block
-  resent : {x : ℕ} {Us Ws : List (List ℕ)} {W B before noise bs qs : List ℕ} → Arrives Us before → Twice W B
-      → Nowhere ((x + length Us) % 16) noise → Sending ((x + length Us) % 16) (W ∷ Ws) bs qs
+  -- some do; for the next seventeen bytes arrive near which no valid block is; whatever is on its way arrives, so long
+  -- as SYN, SYN, 4/X of the awaited number stand nowhere in it; and the sender begins again with that block
+  resent : {x : ℕ} {Us Ws : List (List ℕ)} {W B before noise bs qs : List ℕ} → Arrives Us before
+      → length B ≡ 17 → NoneNear B → Nowhere ((x + length Us) % 16) noise → Sending ((x + length Us) % 16) (W ∷ Ws) bs qs
       → Sending x (Us ++ (W ∷ Ws)) (before ++ B ++ noise ++ (syn ∷ syn ∷ four ((x + length Us) % 16) ∷ bs))
       (request ((x + length Us) % 16) ++ qs)

@@ -18,10 +18,12 @@ mod states;
 mod while_on;
 
 use outcomes::pass;
+use outcomes::refuse;
 use outcomes::silent;
 pub use phases::Phase;
 use reader::Verdict;
-use requests::ask;
+use requests::again;
+use states::emptied;
 pub use states::in_range;
 use while_on::collect;
 use while_on::hear;
@@ -60,12 +62,7 @@ impl Receiver {
     pub fn new() -> Receiver
         ensures { λ r. ⌜ r ≡ newReceiver ⌝ }
     {
-        Receiver {
-            held: [0; 17],
-            count: 0,
-            number: 0,
-            phase: Phase::start(),
-        }
+        emptied(0, Phase::start())
     }
 
     // One byte from the line.
@@ -83,7 +80,7 @@ impl Receiver {
                 ),
             }
         } else {
-            silent(self, 5)
+            refuse(self)
         }
     }
 
@@ -100,7 +97,7 @@ impl Receiver {
             };
             silent(next, 0)
         } else {
-            silent(self, 5)
+            refuse(self)
         }
     }
 
@@ -127,10 +124,10 @@ impl Receiver {
             match phase {
                 Phase::Off => silent(self, 0),
                 Phase::Collecting => silent(self, 0),
-                Phase::Waiting(_) => ask(self, Judged::Nothing),
+                Phase::Waiting(_) => again(self),
             }
         } else {
-            silent(self, 5)
+            refuse(self)
         }
     }
 }

@@ -1,9 +1,9 @@
-// What a call hands back where nothing is judged or asked: no value, or one.
+// What a call hands back where nothing is judged or asked: no value, one, or a broken state.
 ghost use mathlib.Core.Path.{_≡_};
 ghost use mathlib.Core.List.{[]};
 ghost use Rattle.codes.specs.Codes.{plainly};
 ghost use Rattle.receiver.specs.declared.Judged.the-variants.{Nothing};
-ghost use Rattle.receiver.specs.Calls.{giving, passing};
+ghost use Rattle.receiver.specs.Calls.{giving, refused, passing};
 use crate::Judged;
 use crate::Receiver;
 use crate::Stepped;
@@ -21,6 +21,13 @@ pub(crate) fn silent(next: Receiver, answer: u8) -> Stepped
         asked: 0,
         judged: Judged::Nothing,
     }
+}
+
+// A broken state is handed back with its number.
+pub(crate) fn refuse(broken: Receiver) -> Stepped
+    ensures { λ r. ⌜ r ≡ refused broken ⌝ }
+{
+    silent(broken, 5)
 }
 
 // Off: the byte passes by itself.

@@ -2,7 +2,7 @@
 ghost use mathlib.Core.Path.{_≡_};
 ghost use mathlib.Core.List.{[]};
 ghost use Rattle.codes.specs.Codes.{request as requestFor};
-ghost use Rattle.receiver.specs.Calls.{giving};
+ghost use Rattle.receiver.specs.Calls.{giving, asking};
 use crate::Judged;
 use crate::Receiver;
 use crate::Stepped;
@@ -20,4 +20,11 @@ pub(crate) fn ask(next: Receiver, judged: Judged) -> Stepped
         asked: 2,
         judged: judged,
     }
+}
+
+// The same request once more; the state stays.
+pub(crate) fn again(waiting: Receiver) -> Stepped
+    ensures { λ r. ⌜ r ≡ asking waiting ⌝ }
+{
+    ask(waiting, Judged::Nothing)
 }

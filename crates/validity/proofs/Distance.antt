@@ -138,9 +138,9 @@ module _ (C : List ℕ) (lc : length C ≡ 17) (bc : Bytes C) where
         go true q = ne (sym (flip-flip j B hj l) ∙ ap (λ (m : ℕ). flip m (flip j B)) (sym (eqb-true i j q)) ∙ e)
         go false q = hit-twice i j B hi hj (eqb-false i j q) v (also e)
 
-    pub four-apart : 4 ≤ distance B C
+    at-four : 4 ≤ distance B C
     unfolding Off
-    four-apart = go (distance B C) (off (distance B C) B l b refl)
+    at-four = go (distance B C) (off (distance B C) B l b refl)
       where
         go : (n : ℕ) → Off n B → 4 ≤ n
         go zero o = absurd (ne o)
@@ -149,3 +149,6 @@ module _ (C : List ℕ) (lc : length C ≡ 17) (bc : Bytes C) where
         go (suc (suc (suc zero))) o =
             absurd (hit-thrice (o .2 .2 .0) (o .2 .0) (o .0) B (o .2 .2 .1) (o .2 .1) (o .1) v (also (o .2 .2 .2)))
         go (suc (suc (suc (suc n)))) o = omega arith
+
+pub four-apart : (B C : List ℕ) → Bytes B → Bytes C → Valid B → Valid C → (B ≡ C → ⊥) → 4 ≤ distance B C
+four-apart B C b c v w ne = at-four C (valid-length C w) c B b v w ne

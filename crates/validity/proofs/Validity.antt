@@ -1,14 +1,27 @@
--- What validity says, part by part, and the parts that make it. Assumes nothing.
-use mathlib.Core.Path.{_≡_}
-use mathlib.Core.Bool.{_&&_}
-use mathlib.Core.List.{List}
+-- What validity says: of worked blocks, and part by part. Assumes nothing.
+use mathlib.Core.Path.{_≡_, refl}
+use mathlib.Core.Bool.{true, false, _&&_}
+use mathlib.Core.List.{List, [], _∷_, _++_}
 use Prim.Native.Nat.{ℕ}
 use lib.Dec.{T, eqb, eqb→eq}
-use lib.ListN.{length, getD, take}
+use lib.ListN.{length, getD, take, replicate}
 use borrow.Author.Tests.{eq-eqb}
 use Rattle.laws.proofs.Computed.{and-left, and-right, both, holds}
-use Rattle.parity.specs.Parity.{allEven}
-use Rattle.validity.specs.Block.{remainder, valid, Valid}
+use Rattle.division.specs.Division.{lowBits, bits, reduce, divide}
+use Rattle.parity.specs.Parity.{ones, even, allEven}
+use Rattle.validity.specs.Block.{codeBits, remainder, valid, Valid}
+
+-- ---- worked blocks: W1 of 01 is valid; W5 (byte 16), W6 (byte 17), W7 (the remainder), and W1 with a byte more or less
+-- are not, each for that one reason
+
+pub worked :
+    (valid (replicate 17 0) ≡ true) × (valid (replicate 15 0 ++ (128 ∷ 0 ∷ [])) ≡ false)
+    × (valid (replicate 16 0 ++ (1 ∷ [])) ≡ false) × (valid (3 ∷ replicate 16 0) ≡ false)
+    × (valid (replicate 18 0) ≡ false) × (valid (replicate 16 0) ≡ false)
+unfolding lowBits bits reduce divide ones even allEven codeBits remainder valid
+worked = (refl, refl, refl, refl, refl, refl)
+
+-- ---- any block
 
 module _ (B : List ℕ) (v : Valid B) where
   v₁ : T (eqb (length B) 17 && allEven (take 16 B) && eqb (remainder B) 0)

@@ -8,9 +8,13 @@ use lib.ListN.{getD, set}
 use lib.Bits.{bitXor}
 use Rattle.division.specs.Division.{bits}
 
+-- a byte with the bit of weight w changed
+abbrev pub turned : ℕ → ℕ → ℕ
+turned b w = bitXor b w
+
 -- the block with the bit in place k changed
 unfoldable pub flip : ℕ → List ℕ → List ℕ
-flip k B = set B (k / 8) (bitXor (getD B (k / 8) 0) (2 ^ (k % 8)))
+flip k B = set B (k / 8) (turned (getD B (k / 8) 0) (2 ^ (k % 8)))
 
 -- the block hit in each of these places: the bit there changed, one after the other
 unfoldable pub hits : List ℕ → List ℕ → List ℕ

@@ -54,6 +54,17 @@ none-large (v ∷ vs) h =
     ap (λ (t : Bool). cond t (suc (firstLarge vs)) 0) (lt-ltb v 128 (h 0 (zero-lt-suc (length vs))))
     ∙ ap suc (none-large vs (λ i l. h (suc i) (omega (arith, l))))
 
+-- ---- and else it is the place of one with none before it
+
+pub lowest : (vs : List ℕ) (p : ℕ) → p < length vs → 127 < getD vs p 0 → ((i : ℕ) → i < p → getD vs i 0 < 128)
+    → firstLarge vs ≡ p
+unfolding firstLarge
+lowest [] p h l s = absurd (not-suc-le-zero h)
+lowest (v ∷ vs) zero h l s = ap (λ (t : Bool). cond t (suc (firstLarge vs)) 0) (le-ltb v 128 l)
+lowest (v ∷ vs) (suc p) h l s =
+    ap (λ (t : Bool). cond t (suc (firstLarge vs)) 0) (lt-ltb v 128 (s 0 (zero-lt-suc p)))
+    ∙ ap suc (lowest vs p (le-of-suc-le-suc h) l (λ i k. s (suc i) (omega (arith, k))))
+
 -- ---- values one by one
 
 pub values-none : Values []

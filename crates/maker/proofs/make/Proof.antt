@@ -5,50 +5,48 @@ use Prim.Native.Nat.{ℕ, _≤_, _<_}
 use native.Mathlib.Omega.{arith}
 use lib.ListN.{length}
 use borrow.Author.Needs.{needs}
+use borrow.Author.Tests.{lt-ltb, le-ltb, eq-eqb, ne-eqb}
 use Rattle.values.specs.Large.{firstLarge}
-use Rattle.maker.specs.Making.{makeNumber}
-use Rattle.maker.proofs.Numbered.{none, many, large, short, room, refused, written, names-none}
-use Rattle.maker.proofs.Numbered.{names-place}
 use Rattle.maker.proofs.Written.{both-written}
 use Rattle.maker.proofs.make.Statement.{statement}
 use Rattle.maker.proofs.make.Tie as tie
 
--- a number other than zero
-no-zero : {m : ℕ} (n : ℕ) → m ≡ n → (n ≡ 0 → ⊥) → m ≡ 0 → ⊥
-no-zero n e ne z = ne (sym e ∙ z)
-
 returns : tie.Need-returns
-returns c =
-    let s = c .before .before .before in
-    let v : List ℕ = s .args .values .now in
-    let o : List ℕ = s .args .out .now in
-    let e : makeNumber v o ≡ 1 = none v o (c .if1 .taken) in
-    (names-none v o 1 e (omega arith), refused v o (no-zero 1 e (omega arith)))
+returns c = (simp (eq-eqb _ _ (c .if1 .taken)), simp (eq-eqb _ _ (c .if1 .taken)))
 
 returns-2 : tie.Need-returns-2
-returns-2 c =
-    let s = c .before .before .before .before in
-    let v : List ℕ = s .args .values .now in
-    let o : List ℕ = s .args .out .now in
-    let e : makeNumber v o ≡ 1 = many v o (c .before .if1 .left) (c .if2 .taken) in
-    (names-none v o 1 e (omega arith), refused v o (no-zero 1 e (omega arith)))
+returns-2 c = (
+  simp (ne-eqb _ _ (c .before .if1 .left), lt-ltb _ _ (c .if2 .taken)),
+  simp (ne-eqb _ _ (c .before .if1 .left), lt-ltb _ _ (c .if2 .taken)),
+)
 
 first-large-requires : tie.Need-first-large-requires
 first-large-requires c κs = search needs
 
+-- a value is too large
+some-large : (c : tie.Then3) → firstLarge (c .before .before .before .before .before .before .args .values .now)
+    < length (c .before .before .before .before .before .before .args .values .now)
+some-large c =
+    subst (λ (x : ℕ). x < length (c .before .before .before .before .before .before .args .values .now))
+    (c .before .first-large .ensures) (c .if3 .taken)
+
 returns-3 : tie.Need-returns-3
 returns-3 c =
-    let f = c .before in
-    let s = f .before .before .before .before .before in
-    let v : List ℕ = s .args .values .now in
-    let o : List ℕ = s .args .out .now in
-    let p = f .first-large .ensures in
-    let e : makeNumber v o ≡ 2
-    = large v o (f .before .before .if1 .left) (f .before .if2 .left)
-    (subst (λ (x : ℕ). x < length v) p (c .if3 .taken)) in
-    (names-place v o (f .first-large .result) p e, refused v o (no-zero 2 e (omega arith)))
+    let f = c .before in (
+      simp (
+        ne-eqb _ _ (f .before .before .if1 .left),
+        le-ltb _ _ (f .before .if2 .left),
+        lt-ltb _ _ (some-large c),
+        f .first-large .ensures,
+      ),
+      simp (
+        ne-eqb _ _ (f .before .before .if1 .left),
+        le-ltb _ _ (f .before .if2 .left),
+        lt-ltb _ _ (some-large c),
+      ),
+    )
 
--- no value is too large
+-- none is
 no-large : (c : tie.Else3) → length (c .before .before .before .before .before .before .args .values .now)
     ≤ firstLarge (c .before .before .before .before .before .before .args .values .now)
 no-large c =
@@ -57,13 +55,20 @@ no-large c =
 
 returns-4 : tie.Need-returns-4
 returns-4 c =
-    let f = c .before .before in
-    let s = f .before .before .before .before .before in
-    let v : List ℕ = s .args .values .now in
-    let o : List ℕ = s .args .out .now in
-    let e : makeNumber v o ≡ 4
-    = short v o (f .before .before .if1 .left) (f .before .if2 .left) (no-large (c .before)) (c .if4 .taken) in
-    (names-none v o 4 e (omega arith), refused v o (no-zero 4 e (omega arith)))
+    let f = c .before .before in (
+      simp (
+        ne-eqb _ _ (f .before .before .if1 .left),
+        le-ltb _ _ (f .before .if2 .left),
+        le-ltb _ _ (no-large (c .before)),
+        lt-ltb _ _ (c .if4 .taken),
+      ),
+      simp (
+        ne-eqb _ _ (f .before .before .if1 .left),
+        le-ltb _ _ (f .before .if2 .left),
+        le-ltb _ _ (no-large (c .before)),
+        lt-ltb _ _ (c .if4 .taken),
+      ),
+    )
 
 fill-requires : tie.Need-fill-requires
 fill-requires c κs = search needs
@@ -82,12 +87,20 @@ returns-5 c =
     let f = g .before .before in
     let s = f .before .before .before .before .before in
     let v : List ℕ = s .args .values .now in
-    let o : List ℕ = s .args .out .now in
-    let e : makeNumber v o ≡ 0
-    = room v o (f .before .before .if1 .left) (f .before .if2 .left) (no-large (g .before)) (g .if4 .left) in (
-      names-none v o 0 e (omega arith),
-      z .seal .ensures ∙ both-written v o (w .fill .last .1 .0) (f .before .if2 .left) (w .fill .ensures)
-          ∙ written v o e,
+    let o : List ℕ = s .args .out .now in (
+      simp (
+        ne-eqb _ _ (f .before .before .if1 .left),
+        le-ltb _ _ (f .before .if2 .left),
+        le-ltb _ _ (no-large (g .before)),
+        le-ltb _ _ (g .if4 .left),
+      ),
+      z .seal .ensures ∙ both-written v o (w .fill .last .1 .0) (omega arith) (w .fill .ensures)
+          ∙ simp (
+            ne-eqb _ _ (f .before .before .if1 .left),
+            le-ltb _ _ (f .before .if2 .left),
+            le-ltb _ _ (no-large (g .before)),
+            le-ltb _ _ (g .if4 .left),
+          ),
     )
 
 pub make-spec : {M : Type 1} → statement M

@@ -8,14 +8,14 @@ use native.Mathlib.Omega.{arith}
 use lib.ListN.{length, getD, take}
 use lib.Seq.{length-take-le}
 use borrow.Author.Needs.{needs}
-use borrow.Author.Tests.{eqb-true, eqb-false}
+use borrow.Author.Tests.{eqb-true, eqb-false, not-true, not-false}
 use Rattle.parity.specs.Parity.{odds}
 use Rattle.validity.specs.Block.{remainder}
 use Rattle.validity.specs.Units.{unit}
 use Rattle.validity.proofs.Powers.{remainder-lt}
 use Rattle.reader.specs.declared.Verdict.the-variants.{Clean, Mended, Repeat, WrongLength}
 use Rattle.reader.proofs.Verdicts.{settled}
-use Rattle.reader.proofs.Mending.{not-zero, clean, not-one, not-mendable, elsewhere, mended}
+use Rattle.reader.proofs.Mending.{not-zero, clean, not-mendable, elsewhere, mended}
 use Rattle.reader.proofs.mend.Statement.{statement}
 use Rattle.reader.proofs.mend.Tie as tie
 
@@ -48,20 +48,16 @@ not-clean j o z =
     ⊎-elim (λ w. eqb-false (j .before .remainder .result) 0 (w .1 .left) (remainder-is (j .before) ∙ z))
     (λ w. w .left (odd-is (j .before) ∙ o)) (j .if3 .came)
 
--- ---- and once one byte alone is odd and the place is found
+-- ---- and once the place is found
 
 module _ (p : tie.After-place) where
   place-was : List ℕ
-  place-was = was (p .before .before .before)
-
-  one-odd : odds (take 16 place-was) ≡ 1
-  unfolding place-was
-  one-odd = sym (odd-is (p .before .before .before)) ∙ p .before .if5 .left
+  place-was = was (p .before .before)
 
   points : remainder (unit (p .place .result)) ≡ remainder place-was
   unfolding place-was
   points =
-      let a = p .before .before .before in
+      let a = p .before .before in
       p .place .ensures .1 ∙ ap (λ (x : ℕ). x % 128) (remainder-is a) ∙ mod-eq-of-lt (remainder-lt (was a))
 
 returns : tie.Need-returns
@@ -103,16 +99,26 @@ returns-3 c =
 same-length-2 : tie.Need-same-length-2
 same-length-2 c = search needs
 
-returns-4 : tie.Need-returns-4
-unfolding was
-returns-4 c =
-    let a = c .before .before in
-    settled (was a) Repeat
-    (not-one (was a) (long a) (not-clean (c .before))
-    (λ (o : odds (take 16 (was a)) ≡ 1). c .if5 .taken (odd-is a ∙ o))) refl
-
 place-requires : tie.Need-place-requires
 place-requires c κs = search needs
+
+returns-4 : tie.Need-returns-4
+unfolding was place-was
+returns-4 c =
+    let p = c .before in
+    let a = p .before .before in
+    settled (was a) Repeat
+    (not-mendable (was a) (long a) (not-clean (p .before)) (p .place .result) (p .place .ensures .0) (points p)
+    (c .if5 .taken)) refl
+
+cast-at : tie.Need-cast-at
+cast-at c = search needs
+
+slice-read-is-the-odd-one : tie.Need-slice-read-is-the-odd-one
+slice-read-is-the-odd-one c = search needs
+
+is-the-odd-one-requires : tie.Need-is-the-odd-one-requires
+is-the-odd-one-requires c κs = search needs
 
 same-length-3 : tie.Need-same-length-3
 same-length-3 c = search needs
@@ -120,32 +126,12 @@ same-length-3 c = search needs
 returns-5 : tie.Need-returns-5
 unfolding was place-was
 returns-5 c =
-    let p = c .before in
-    let a = p .before .before .before in
-    settled (was a) Repeat
-    (not-mendable (was a) (long a) (p .place .result) (p .place .ensures .0) (points p) (one-odd p)
-    (c .if6 .taken)) refl
-
-cast-at : tie.Need-cast-at
-cast-at c = search needs
-
-slice-read-is-even : tie.Need-slice-read-is-even
-slice-read-is-even c = search needs
-
-is-even-requires : tie.Need-is-even-requires
-is-even-requires c κs = search needs
-
-same-length-4 : tie.Need-same-length-4
-same-length-4 c = search needs
-
-returns-6 : tie.Need-returns-6
-unfolding was place-was
-returns-6 c =
     let p = c .before .before .before .before in
-    let a = p .before .before .before in
+    let a = p .before .before in
     settled (was a) Repeat
-    (elsewhere (was a) (long a) (p .place .result) (p .place .ensures .0) (points p) (one-odd p)
-    (sym (c .before .is-even .ensures) ∙ c .if7 .taken)) refl
+    (elsewhere (was a) (long a) (not-clean (p .before)) (p .place .result) (p .place .ensures .0) (points p)
+    (simp (← odd-is a, ← c .before .is-the-odd-one .ensures)
+    (not-true (c .before .is-the-odd-one .result) (c .if6 .taken)))) refl
 
 cast-flip : tie.Need-cast-flip
 cast-flip c = search needs
@@ -153,19 +139,21 @@ cast-flip c = search needs
 flip-requires : tie.Need-flip-requires
 flip-requires c κs = search needs
 
-same-length-5 : tie.Need-same-length-5
-same-length-5 c = search needs
+same-length-4 : tie.Need-same-length-4
+same-length-4 c = search needs
 
-returns-7 : tie.Need-returns-7
+returns-6 : tie.Need-returns-6
 unfolding was place-was
-returns-7 c =
+returns-6 c =
     let f = c .before .before in
     let e = f .before .before in
     let p = e .before .before .before .before in
-    let a = p .before .before .before in
+    let a = p .before .before in
     settled (was a) (Mended (p .place .result))
-    (mended (was a) (long a) (p .place .result) (p .place .ensures .0) (points p) (one-odd p) (zero-last a)
-    (e .before .before .before .if6 .left) (sym (e .before .is-even .ensures) ∙ e .if7 .left)) (f .flip .ensures)
+    (mended (was a) (long a) (not-clean (p .before)) (p .place .result) (p .place .ensures .0) (points p) (zero-last a)
+    (e .before .before .before .if5 .left)
+    (simp (← odd-is a, ← e .before .is-the-odd-one .ensures)
+    (not-false (e .before .is-the-odd-one .result) (e .if6 .left)))) (f .flip .ensures)
 
 pub mend-spec : {M : Type 1} → statement M
 mend-spec =
@@ -180,17 +168,15 @@ mend-spec =
     remainder-requires
     same-length
     returns-3
+    place-requires
     same-length-2
     returns-4
-    place-requires
+    cast-at
+    slice-read-is-the-odd-one
+    is-the-odd-one-requires
     same-length-3
     returns-5
-    cast-at
-    slice-read-is-even
-    is-even-requires
-    same-length-4
-    returns-6
     cast-flip
     flip-requires
-    same-length-5
-    returns-7)
+    same-length-4
+    returns-6)

@@ -7,10 +7,9 @@ use native.Mathlib.Omega.{arith}
 use lib.Dec.{eqb, eqb→eq}
 use lib.ListN.{getD, set}
 use lib.Seq.{set-out}
-use lib.Bits.{bitXor}
 use borrow.Author.Needs.{needs}
 use Rattle.laws.proofs.Computed.{at}
-use Rattle.validity.specs.Changed.{flip}
+use Rattle.validity.specs.Changed.{turned, flip}
 use Rattle.validity.proofs.flip.Statement.{statement}
 use Rattle.validity.proofs.flip.Tie as tie
 
@@ -41,14 +40,11 @@ unfolding flip
 returns c =
     let b : List ℕ = c .before .before .args .block .now in
     let k : ℕ = c .before .before .args .k in
-    ap (λ (x : ℕ). set b (k / 8) (bitXor (getD b (k / 8) 0) x)) (weight k)
+    ap (λ (x : ℕ). set b (k / 8) (turned (getD b (k / 8) 0) x)) (weight k)
 
 returns-2 : tie.Need-returns-2
 unfolding flip
-returns-2 c =
-    let b : List ℕ = c .before .args .block .now in
-    let k : ℕ = c .before .args .k in
-    sym (set-out b (k / 8) (bitXor (getD b (k / 8) 0) (2 ^ (k % 8))) (c .if1 .left))
+returns-2 c = sym (set-out (c .before .args .block .now) (c .before .args .k / 8) _ (c .if1 .left))
 
 pub flip-spec : {M : Type 1} → statement M
 flip-spec =

@@ -1,4 +1,5 @@
 -- The theorem is proved where its words are. Assumes nothing.
+use Rattle.codes.proofs.Numbered.{spelled}
 use Rattle.codes.proofs.Seen.{codes-carry-parity}
 use Rattle.receiver.proofs.Kept.{again-same}
 use Rattle.receiver.proofs.Asked.{requests, again-gives}
@@ -7,7 +8,7 @@ use Rattle.line_demands.proofs.runs.a_request_names_the_awaited_block.T
 
 returns : tie.Need-returns
 returns c =
-    (codes-carry-parity, (λ r g e. requests e r g, λ r g. (again-same r, again-gives r g)))
+    (codes-carry-parity, (spelled, (λ r g e. requests e r g, λ r g. (again-same r, again-gives r g))))
 
 pub a-request-names-the-awaited-block-spec : {M : Type 1} → statement M
 a-request-names-the-awaited-block-spec = tie.close (tie.spec returns)

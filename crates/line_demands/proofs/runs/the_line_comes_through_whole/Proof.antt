@@ -1,14 +1,14 @@
 -- The theorem is proved where its words are. Assumes nothing.
 use Rattle.codes.proofs.Seen.{nowhere-none}
 use Rattle.receiver.specs.Line.{madeOf}
-use Rattle.receiver.proofs.Whole.{line-whole, asked-once, each-once, unhit}
+use Rattle.receiver.proofs.Whole.{line-whole, asked-once, each-once, unhit, made-at}
 use Rattle.line_demands.proofs.runs.the_line_comes_through_whole.Statement.{statement}
 use Rattle.line_demands.proofs.runs.the_line_comes_through_whole.Tie as tie
 
 returns : tie.Need-returns
 returns c = (
   line-whole,
-  (asked-once, (each-once, (λ vs. unhit (madeOf vs), nowhere-none))),
+  (asked-once, (each-once, (λ vs. unhit (madeOf vs), nowhere-none, made-at))),
 )
 
 pub the-line-comes-through-whole-spec : {M : Type 1} → statement M

@@ -30,11 +30,11 @@ silent-requires-2 c κs = search needs
 enum-told-3 : tie.Need-enum-told-3
 enum-told-3 c = search needs
 
-ask-requires : tie.Need-ask-requires
-ask-requires c κs = search needs
+again-requires : tie.Need-again-requires
+again-requires c κs = search needs
 
-silent-requires-3 : tie.Need-silent-requires-3
-silent-requires-3 c κs = search needs
+refuse-requires : tie.Need-refuse-requires
+refuse-requires c κs = search needs
 
 returns : tie.Need-returns
 returns c =
@@ -52,11 +52,11 @@ returns-3 : tie.Need-returns-3
 returns-3 c =
     let s = c .before .before .before .before in
     let e : inRange (was s) ≡ true = sym (s .in-range .ensures) ∙ c .before .before .before .if1 .taken in
-    c .ask .ensures
+    c .again .ensures
     ∙ again-in (was s) (Waiting (c .before .enum-told3 .given .0 .0)) e (c .before .enum-told3 .given .1)
 
 returns-4 : tie.Need-returns-4
-returns-4 c = simp (c .silent3 .ensures, c .before .if1 .left, ← c .before .before .in-range .ensures)
+returns-4 c = simp (c .refuse .ensures, c .before .if1 .left, ← c .before .before .in-range .ensures)
 
 pub ask-again-spec : {M : Type 1} → statement M
 ask-again-spec =
@@ -68,8 +68,8 @@ ask-again-spec =
     enum-told-2
     silent-requires-2
     enum-told-3
-    ask-requires
-    silent-requires-3
+    again-requires
+    refuse-requires
     returns
     returns-2
     returns-3

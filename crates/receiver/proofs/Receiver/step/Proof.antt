@@ -41,8 +41,8 @@ hear-requires c κs = search needs
 silent-requires : tie.Need-silent-requires
 silent-requires c κs = search needs
 
-silent-requires-2 : tie.Need-silent-requires-2
-silent-requires-2 c κs = search needs
+refuse-requires : tie.Need-refuse-requires
+refuse-requires c κs = search needs
 
 returns : tie.Need-returns
 returns c =
@@ -67,7 +67,7 @@ returns-3 c =
     ∙ step-in (was s) (Waiting (t .phase .given .0 .0)) e (t .phase .given .1) (s .before .args .byte)
 
 returns-4 : tie.Need-returns-4
-returns-4 c = simp (c .silent2 .ensures, c .before .if1 .left, ← c .before .before .in-range .ensures)
+returns-4 c = simp (c .refuse .ensures, c .before .if1 .left, ← c .before .before .in-range .ensures)
 
 pub step-spec : {M : Type 1} → statement M
 step-spec =
@@ -82,7 +82,7 @@ step-spec =
     listen-requires
     hear-requires
     silent-requires
-    silent-requires-2
+    refuse-requires
     returns
     returns-2
     returns-3
