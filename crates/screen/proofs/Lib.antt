@@ -7,3 +7,4 @@ pub mod Touched
 pub mod Repeated
 pub mod Returned
 pub mod Given
+pub mod BadUs

@@ -24,6 +24,7 @@ use Rattle.cells.specs.declared.Cell.{Cell}
 use Rattle.cells.specs.Characters.{blankOf}
 use Rattle.sheet.specs.Clearing.{cleared}
 use Rattle.sheet.proofs.Blanked.{row-0-kept, others-blank}
+use Rattle.writing.proofs.Cells.{written-has}
 use Rattle.pen.specs.declared.Pen.{Pen}
 use Rattle.pen.specs.Strokes.{stroke}
 use Rattle.planning.specs.declared.Asked.{Asked}
@@ -96,13 +97,24 @@ times-cell s a d (suc n) x h k f =
 -- a character is at the cursor's place, with its set and code
 pub character-there : (s : Screen) (a d : ℕ) → InScreen s
     → (cellAt (written s a d) (s .pen .place) .set ≡ a) × (cellAt (written s a d) (s .pen .place) .code ≡ d)
+    × (cellAt (written s a d) (s .pen .place) .ink ≡ s .pen .attributes .ink)
+    × (cellAt (written s a d) (s .pen .place) .ground ≡ written s a d .pen .attributes .ground)
+    × (cellAt (written s a d) (s .pen .place) .flash ≡ s .pen .attributes .flash)
+    × (cellAt (written s a d) (s .pen .place) .inverse ≡ s .pen .attributes .inverse)
 unfolding written
 character-there s a d h =
     let e =
     getD-set-same (s .cells) (indexOf (s .pen .place)) (stroke (s .pen) a d .cell) blankOf
     (omega (arith, h .thousand, index-low (h .pen .place)))
     in
-    (ap (λ (c : Cell). c .set) e, ap (λ (c : Cell). c .code) e)
+    let w = written-has (s .pen .attributes) a d in (
+      ap (λ (c : Cell). c .set) e ∙ w .set,
+      ap (λ (c : Cell). c .code) e ∙ w .code,
+      ap (λ (c : Cell). c .ink) e ∙ w .ink,
+      ap (λ (c : Cell). c .ground) e ∙ w .ground,
+      ap (λ (c : Cell). c .flash) e ∙ w .flash,
+      ap (λ (c : Cell). c .inverse) e ∙ w .inverse,
+    )
 
 -- ---- any value
 

@@ -47,7 +47,11 @@ pub fn rep_is_single_characters()
     ensures one { λ _. ⌜ ((s : Screen) (b : ℕ) → s .pen .sequence ≡ Free → 32 ≤ b
         → advanced s b ≡ written s (s .pen .attributes .set) b) ⌝ }
     ensures there { λ _. ⌜ ((s : Screen) (a d : ℕ) → InScreen s → (cellAt (written s a d) (s .pen .place) .set ≡ a)
-        × (cellAt (written s a d) (s .pen .place) .code ≡ d)) ⌝ }
+        × (cellAt (written s a d) (s .pen .place) .code ≡ d)
+        × (cellAt (written s a d) (s .pen .place) .ink ≡ s .pen .attributes .ink)
+        × (cellAt (written s a d) (s .pen .place) .ground ≡ written s a d .pen .attributes .ground)
+        × (cellAt (written s a d) (s .pen .place) .flash ≡ s .pen .attributes .flash)
+        × (cellAt (written s a d) (s .pen .place) .inverse ≡ s .pen .attributes .inverse)) ⌝ }
     ensures again { λ _. ⌜ ((s : Screen) (a d n : ℕ) → s .pen .sequence ≡ Repeat → s .pen .last ≡ Character a d → 64 ≤ n
         → advanced s n ≡ writtenTimes (ended s) a d (n - 64)) ⌝ }
     ensures never { λ _. ⌜ ((s : Screen) (n : ℕ) → s .pen .sequence ≡ Repeat → s .pen .last ≡ Never → 64 ≤ n

@@ -1,6 +1,6 @@
 -- What a code gives, by what is unfinished. Assumes nothing.
-use mathlib.Core.Path.{_≡_, refl, _∙_}
-use mathlib.Core.Bool.{true, false}
+use mathlib.Core.Path.{_≡_, refl, ap, _∙_}
+use mathlib.Core.Bool.{Bool, true, false, cond}
 use Prim.Native.Nat.{ℕ, _-_, _≤_, _<_}
 use native.Mathlib.Omega.{arith}
 use lib.Dec.{ltb}
@@ -56,8 +56,11 @@ heard-dropped b l =
 
 -- REP n from 4/0 orders the last character n minus 64 times more
 pub heard-repeat : (n : ℕ) → 64 ≤ n → heard Repeat n ≡ does (Again (n - 64))
-heard-repeat n h = heard-code Repeat n (omega (arith, h)) ∙ simp (le-ltb n 64 h)
+heard-repeat n h =
+    heard-code Repeat n (omega (arith, h))
+    ∙ ap (λ (t : Bool). cond t (does Skip) (does (Again (n - 64)))) (le-ltb n 64 h)
 
 -- and any lower code ends it
 pub heard-low : (n : ℕ) → 32 ≤ n → n < 64 → heard Repeat n ≡ does Skip
-heard-low n h k = heard-code Repeat n h ∙ simp (lt-ltb n 64 k)
+heard-low n h k =
+    heard-code Repeat n h ∙ ap (λ (t : Bool). cond t (does Skip) (does (Again (n - 64)))) (lt-ltb n 64 k)

@@ -1,3 +1,4 @@
 pub mod Stays
+pub mod Cells
 pub mod Takers
 pub mod Mosaics
