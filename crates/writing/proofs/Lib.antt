@@ -1,4 +1,4 @@
-pub mod Stays
 pub mod Cells
+pub mod Stays
 pub mod Takers
 pub mod Mosaics
