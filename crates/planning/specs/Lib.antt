@@ -2,4 +2,5 @@ pub mod Changing
 pub mod Obeying
 pub mod Planning
 pub mod Grounds
+pub mod Lasts
 pub mod Reach
