@@ -19,7 +19,7 @@ use Rattle.pen.specs.Pens.{freshPen}
 use Rattle.pen.specs.Strokes.{stroke}
 
 -- place and attributes, what is kept of both, the last character, what is unfinished, whether the cursor is shown
-abbrev pen : Place → Attributes → Place → Attributes → Last → Sequence → Bool → Pen
+abbrev pub pen : Place → Attributes → Place → Attributes → Last → Sequence → Bool → Pen
 pen x a y b l q t =
     record { place = x; attributes = a; kept = record { place = y; attributes = b }; last = l; sequence = q; shown = t }
 
@@ -27,7 +27,7 @@ abbrev cell : ℕ → ℕ → ℕ → ℕ → Bool → Bool → Cell
 cell s d i g f v = record { set = s; code = d; ink = i; ground = g; flash = f; inverse = v }
 
 -- G0, ink 7, ground 0, none waiting, steady, not inverse
-abbrev start : Attributes
+abbrev pub start : Attributes
 start = attributes 0 7 0 Nothing false false
 
 -- row 3, column 40; G1, ink 2, ground 4, ground 5 waiting, flashing; kept of row 7, column 9: inverse in ink 1
@@ -50,7 +50,7 @@ worked =
       35,
       cell 2 35 2 4 true false,
       pen (at 4 1) (attributes 1 2 4 (Ground 5) true false) (at 7 9) (attributes 0 1 0 Nothing false true)
-      (Character 2 35) Repeat true,
+          (Character 2 35) Repeat true,
     )
     -- a G1 character takes it, and has it
     ∷ (
@@ -59,7 +59,7 @@ worked =
       53,
       cell 1 53 2 5 true false,
       pen (at 4 1) (attributes 1 2 5 Nothing true false) (at 7 9) (attributes 0 1 0 Nothing false true)
-      (Character 1 53) Repeat true,
+          (Character 1 53) Repeat true,
     )
     ∷ []
 
