@@ -10,7 +10,7 @@ use Rattle.cursor.specs.Places.{at}
 use Rattle.motion.specs.Moves.{downOf}
 use Rattle.addresses.specs.declared.Address.the-variants.{Nowhere, There}
 use Rattle.addresses.specs.Addressing.{good}
-use Rattle.sequences.specs.declared.Sequence.the-variants.{Free, Separator, Row}
+use Rattle.sequences.specs.declared.Sequence.the-variants.{Free, Separator}
 use Rattle.sequences.specs.declared.Order.{Order}
 use Rattle.sequences.specs.declared.Order.the-variants.{Skip, Left, Right, Up, Down, First, Clear, Home}
 use Rattle.sequences.specs.declared.Order.the-variants.{ShiftOut, ShiftIn, Show, Hide, Pair, Go, Write}
@@ -25,7 +25,6 @@ use Rattle.planning.specs.Changing.{withPlace, withAttributes, withSeque
 use Rattle.planning.specs.Obeying.{keeps, again, keeping, entering, startAt, gone, obeyed}
 use Rattle.planning.specs.Planning.{unfinished, ordered, planned, finished, afterOrder, penAfter}
 use Rattle.planning.proofs.Plans.{plan-heard}
-use Rattle.planning.proofs.Addressed.{us-there}
 
 -- ---- what is kept
 
@@ -83,14 +82,9 @@ kept-stays p b e = order-kept (unfinished p b) (ordered p b) e
 abbrev pub entered : Pen → ℕ → Pen
 entered p c = startAt (keeping (withSequence p Free)) (at 0 (c - 64))
 
-entering-row : (p : Pen) → 1 ≤ p .place .row → entering p 0 ≡ keeping p
+-- US into row 0 from another row keeps what stands
+pub entering-row : (p : Pen) → 1 ≤ p .place .row → entering p 0 ≡ keeping p
 entering-row p r = simp (ne-eqb (p .place .row) 0 (λ f. omega (arith, r, f)))
-
-pub enters : (p : Pen) (c : ℕ) → p .sequence ≡ Row 64 → 1 ≤ p .place .row → 65 ≤ c → c ≤ 104
-    → planned p c ≡ keeps (entered p c)
-enters p c q r h k =
-    us-there p 64 c q (record { lowest = lit≤ tt; highest = lit≤ tt; first = h; last = k })
-    ∙ ap (λ (x : Pen). keeps (startAt x (at 0 (c - 64)))) (entering-row (withSequence p Free) r)
 
 -- LF in row 0, not after SEP: no cell is asked for, and what was kept is back
 pub lf-back : (p : Pen) → (p .sequence ≡ Separator → ⊥) → p .place .row ≡ 0
