@@ -1,17 +1,19 @@
--- What reading gives: the number in every case, and the cell. Assumes nothing.
+-- What reading gives: the number in every case, the cell, and the cells of a fresh screen. Assumes nothing.
 use mathlib.Core.Path.{_≡_, refl}
 use mathlib.Core.Bool.{Bool, true, false, cond}
 use mathlib.Core.List.{[], _∷_}
 use Prim.Native.Nat.{ℕ}
+use lib.ListN.{getD-replicate}
 use Rattle.cursor.specs.declared.Place.{Place}
-use Rattle.cursor.specs.Places.{at, On, onScreen}
-use Rattle.cursor.proofs.Tested.{on-true, true-on}
+use Rattle.cursor.specs.Places.{at, On, onScreen, indexOf}
+use Rattle.cursor.proofs.Tested.{on-true, true-on, index-low}
+use Rattle.cells.specs.Characters.{blankOf}
 use Rattle.page.specs.declared.Screen.{Screen}
 use Rattle.page.specs.declared.Read.{Read}
 use Rattle.page.specs.declared.Read.the-variants.{Broken as Unread, Off, There}
 use Rattle.page.specs.declared.Cursor.{Cursor}
 use Rattle.page.specs.declared.Cursor.the-variants.{Broken as Lost, Hidden, Shown}
-use Rattle.page.specs.Pages.{cellAt}
+use Rattle.page.specs.Pages.{freshScreen, cellAt}
 use Rattle.page.specs.Ranges.{broken}
 use Rattle.page.specs.Reading.{read, pointed, readNumber, cursorNumber}
 
@@ -58,3 +60,10 @@ pub points : (s : Screen) → broken s ≡ false
     → pointed s ≡ cond (s .pen .shown) (Shown (s .pen .place)) (Hidden (s .pen .place))
 unfolding pointed
 points s e = simp e
+
+-- ---- a fresh screen
+
+-- every cell of it is blank
+pub fresh-blank : (x : Place) → On x → cellAt freshScreen x ≡ blankOf
+unfolding freshScreen
+fresh-blank x h = getD-replicate 1000 (indexOf x) blankOf blankOf (index-low h)

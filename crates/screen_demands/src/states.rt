@@ -6,10 +6,12 @@ ghost use mathlib.Core.List.{List, [], _∷_};
 ghost use Prim.Native.Nat.{ℕ, _≤_, _<_};
 ghost use lib.ListN.{length};
 ghost use Rattle.values.specs.Large.{firstLarge};
+ghost use Rattle.cursor.specs.declared.Place.{Place};
 ghost use Rattle.cursor.specs.Places.{at, On};
 ghost use Rattle.sequences.specs.declared.Sequence.{Sequence};
 ghost use Rattle.sequences.specs.Hearing.{inRange};
 ghost use Rattle.sequences.specs.Opening.{LeftOpen};
+ghost use Rattle.cells.specs.Characters.{blankOf};
 ghost use Rattle.page.specs.declared.Screen.{Screen};
 ghost use Rattle.page.specs.declared.Read.the-variants.{Off, There};
 ghost use Rattle.page.specs.declared.Cursor.the-variants.{Hidden, Shown};
@@ -35,7 +37,8 @@ pub fn each_call_gives_its_number()
 {}
 
 // Reading a cell or the cursor gives 5 exactly for a broken screen, and else 0. Read at a place of the screen, a cell is
-// the one at that row and column; off the screen there is none. The cursor is read with its place, shown or hidden.
+// the one at that row and column; off the screen there is none. The cursor is read with its place, shown or hidden. Every
+// cell of a fresh screen is blank.
 pub fn reading_gives_the_cell_at_its_place()
     ensures numbers { λ _. ⌜ ((s : Screen) → ((r c : ℕ) → readNumber (read s r c) ≡ cond (broken s) (5 ∷ []) (0 ∷ []))
         × (cursorNumber (pointed s) ≡ cond (broken s) (5 ∷ []) (0 ∷ []))) ⌝ }
@@ -44,6 +47,7 @@ pub fn reading_gives_the_cell_at_its_place()
     ensures off { λ _. ⌜ ((s : Screen) (r c : ℕ) → broken s ≡ false → (On (at r c) → ⊥) → read s r c ≡ Off) ⌝ }
     ensures cursor { λ _. ⌜ ((s : Screen) → broken s ≡ false
         → pointed s ≡ cond (s .pen .shown) (Shown (s .pen .place)) (Hidden (s .pen .place))) ⌝ }
+    ensures anew { λ _. ⌜ ((x : Place) → On x → cellAt freshScreen x ≡ blankOf) ⌝ }
 {}
 
 // A fresh screen is in range, and from a screen in range every step with a value of 0 to 127 gives one in range. The
