@@ -15,6 +15,7 @@ pub use line_demands::states::places_past_a_count_are_0;
 // the screen: 5 and 2
 pub use screen_demands::states::each_call_gives_its_number as each_call_of_a_screen_gives_its_number;
 pub use screen_demands::states::every_step_keeps_the_range as every_step_of_a_screen_keeps_the_range;
+pub use screen_demands::states::reading_gives_the_cell_at_its_place;
 
 // the links: 5 and 2
 pub use link_demands::states::at_most_five_small_bytes;

@@ -22,9 +22,12 @@ pub use line_demands::runs::while_off_each_byte_passes_by_itself;
 // the screen
 pub use screen_demands::changes::a_c0_code_ends_a_sequence;
 pub use screen_demands::changes::a_waiting_ground_has_one_fate;
-pub use screen_demands::changes::nothing_is_inverse_in_g1;
+pub use screen_demands::changes::ff_and_rs_start_at_row_1;
+pub use screen_demands::changes::only_a_written_character_becomes_the_last;
 pub use screen_demands::changes::only_characters_and_ff_change_a_cell;
 pub use screen_demands::changes::rep_is_single_characters;
+pub use screen_demands::changes::the_attributes_of_g1_are_never_inverse;
+pub use screen_demands::changes::us_starts_at_its_place_or_changes_nothing;
 pub use screen_demands::pieces::a_run_is_its_single_steps;
 pub use screen_demands::rows::lf_returns_from_row_0;
 pub use screen_demands::rows::no_move_crosses_into_row_0;

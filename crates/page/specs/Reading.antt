@@ -18,10 +18,10 @@ read s r c = cond (broken s) Unread (cond (onScreen (at r c)) (There (cellAt s (
 unfoldable pub pointed : Screen → Cursor
 pointed s = cond (broken s) Lost (cond (s .pen .shown) (Shown (s .pen .place)) (Hidden (s .pen .place)))
 
--- the paper's number of what is read; a place off the screen has none
+-- the paper's number of what is read: 0 where it is not 5, off the screen too
 abbrev pub readNumber : Read → List ℕ
 readNumber Unread = 5 ∷ []
-readNumber Off = []
+readNumber Off = 0 ∷ []
 readNumber (There c) = 0 ∷ []
 
 abbrev pub cursorNumber : Cursor → List ℕ

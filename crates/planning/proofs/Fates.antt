@@ -1,5 +1,5 @@
--- What becomes of a ground that waits, order by order. Assumes nothing.
-use mathlib.Core.Path.{_≡_, refl, ap, _∙_}
+-- What becomes of the grounds, order by order. Assumes nothing.
+use mathlib.Core.Path.{_≡_, refl, sym, ap, _∙_}
 use mathlib.Core.Bool.{Bool, true, false, cond}
 use Prim.Native.Nat.{ℕ, zero, suc, _-_, _%_}
 use lib.Dec.{eqb}
@@ -16,12 +16,13 @@ use Rattle.sequences.specs.declared.Order.the-variants.{ShiftOut, ShiftIn, Show
 use Rattle.sequences.specs.declared.Order.the-variants.{Second, Again}
 use Rattle.sequences.specs.Hearing.{heard}
 use Rattle.attributes.specs.declared.Waiting.{Waiting}
-use Rattle.attributes.specs.declared.Waiting.the-variants.{Ground}
+use Rattle.attributes.specs.declared.Waiting.the-variants.{Nothing, Ground}
 use Rattle.attributes.specs.declared.Attributes.{Attributes}
 use Rattle.attributes.specs.Attributing.{grounds}
 use Rattle.pairs.specs.Pairing.{paired, namesGround}
 use Rattle.pairs.proofs.Grounds.{pair-ground, pair-others}
-use Rattle.writing.specs.Writing.{takes, taking, afterWaiting, afterWriting}
+use Rattle.writing.specs.Writing.{takes, afterWaiting, afterWriting}
+use Rattle.writing.proofs.Takers.{written-twice}
 use Rattle.pen.specs.declared.Last.{Last}
 use Rattle.pen.specs.declared.Last.the-variants.{Never, Character}
 use Rattle.pen.specs.declared.Pen.{Pen}
@@ -29,87 +30,80 @@ use Rattle.pen.specs.Strokes.{afterTimes}
 use Rattle.planning.specs.Changing.{withPlace, withAttributes, withSequence}
 use Rattle.planning.specs.Obeying.{again, gone, obeyed}
 use Rattle.planning.specs.Planning.{finished, afterOrder, unfinished, ordered, penAfter}
-use Rattle.planning.specs.Grounds.{Fate, taken, replaced, dropped, broughtBack, waits}
-use Rattle.planning.specs.Grounds.{takenWhere, againFate, fate}
-use Rattle.planning.specs.Grounds.{outcome}
+use Rattle.planning.specs.Grounds.{Fate, taken, awaited, dropped, broughtBack, leftAlone}
+use Rattle.planning.specs.Grounds.{takenWhere, againFate, fate, takenFrom, outcome}
 
-module _ (p : Pen) (g : ℕ) (e : p .attributes .waiting ≡ Ground g) where
-  -- it goes on waiting
-  same : grounds (p .attributes) ≡ outcome p g waits
-  same = ap (λ (w : Waiting). (p .attributes .ground, w)) e
-
+module _ (p : Pen) where
   -- ---- a character written
 
-  -- the attributes after one that takes a ground, or does not
-  one : (s d : ℕ) → afterWriting (p .attributes) s d ≡ cond (takes s d) (taking (p .attributes) g) (p .attributes)
-  one s d = ap (λ (w : Waiting). afterWaiting w (p .attributes) (takes s d)) e
+  -- one that takes a ground, or does not
+  marked : (t : Bool) (w : Waiting) → p .attributes .waiting ≡ w
+      → grounds (afterWaiting w (p .attributes) t) ≡ outcome p (takenWhere t)
+  marked true Nothing e =
+      ap (λ (w : Waiting). (p .attributes .ground, w)) e
+      ∙ sym (ap (λ (w : Waiting). (takenFrom w (p .attributes .ground), Nothing)) e)
+  marked true (Ground g) e = sym (ap (λ (w : Waiting). (takenFrom w (p .attributes .ground), Nothing)) e)
+  marked false Nothing e = refl
+  marked false (Ground g) e = refl
 
-  marked : (t : Bool) → grounds (cond t (taking (p .attributes) g) (p .attributes)) ≡ outcome p g (takenWhere t)
-  marked true = refl
-  marked false = same
-
-  written-fate : (s d : ℕ) → grounds (afterTimes p s d 1 .attributes) ≡ outcome p g (takenWhere (takes s d))
+  -- once, and the same one again and again
+  times : (s d n : ℕ) → afterTimes p s d (suc n) .attributes ≡ afterWriting (p .attributes) s d
   unfolding afterTimes
-  written-fate s d = ap grounds (one s d) ∙ marked (takes s d)
+  times s d zero = refl
+  times s d (suc n) =
+      ap (λ (a : Attributes). afterWriting a s d) (times s d n) ∙ written-twice (p .attributes) s d
 
-  -- the same one again and again
-  times : (t : Bool) (s d n : ℕ) → takes s d ≡ t
-      → afterTimes p s d (suc n) .attributes ≡ cond t (taking (p .attributes) g) (p .attributes)
-  unfolding afterTimes
-  times t s d zero f = one s d ∙ ap (λ (u : Bool). cond u (taking (p .attributes) g) (p .attributes)) f
-  times true s d (suc n) f = ap (λ (a : Attributes). afterWriting a s d) (times true s d n f)
-  times false s d (suc n) f =
-      ap (λ (a : Attributes). afterWriting a s d) (times false s d n f) ∙ one s d
-      ∙ ap (λ (u : Bool). cond u (taking (p .attributes) g) (p .attributes)) f
+  written-fate : (s d n : ℕ) → grounds (afterTimes p s d (suc n) .attributes) ≡ outcome p (takenWhere (takes s d))
+  written-fate s d n = ap grounds (times s d n) ∙ marked (takes s d) (p .attributes .waiting) refl
 
   last-fate : (l : Last) (n : ℕ)
-      → grounds (finished (again p l n .pen) (again p l n .asked) .attributes) ≡ outcome p g (againFate l n)
+      → grounds (finished (again p l n .pen) (again p l n .asked) .attributes) ≡ outcome p (againFate l n)
   unfolding afterTimes
-  last-fate Never n = same
-  last-fate (Character s d) zero = same
-  last-fate (Character s d) (suc n) = ap grounds (times (takes s d) s d n refl) ∙ marked (takes s d)
+  last-fate Never n = refl
+  last-fate (Character s d) zero = refl
+  last-fate (Character s d) (suc n) = written-fate s d n
 
   -- ---- the other orders
 
   pair-fate : (c : ℕ)
-      → grounds (paired (p .attributes) c) ≡ outcome p g (cond (namesGround c) (replaced (c % 16)) waits)
+      → grounds (paired (p .attributes) c) ≡ outcome p (cond (namesGround c) (awaited (c % 16)) leftAlone)
   pair-fate c =
-      chosen (λ (f : Fate). grounds (paired (p .attributes) c) ≡ outcome p g f) (namesGround c)
-      (λ t. pair-ground (p .attributes) c t) (λ t. pair-others (p .attributes) c t ∙ same)
+      chosen (λ (f : Fate). grounds (paired (p .attributes) c) ≡ outcome p f) (namesGround c)
+      (λ t. pair-ground (p .attributes) c t) (λ t. pair-others (p .attributes) c t)
 
   go-fate : (t : Bool) (x : Place)
-      → grounds (gone p (cond t (There x) Nowhere) .attributes) ≡ outcome p g (cond t dropped waits)
+      → grounds (gone p (cond t (There x) Nowhere) .attributes) ≡ outcome p (cond t dropped leftAlone)
   unfolding gone
   go-fate true x = refl
-  go-fate false x = same
+  go-fate false x = refl
 
   down-fate : (t : Bool)
       → grounds
       (cond t (withAttributes (withPlace p (p .kept .place)) (p .kept .attributes)) (withPlace p (downOf (p .place)))
       .attributes)
-      ≡ outcome p g (cond t broughtBack waits)
+      ≡ outcome p (cond t broughtBack leftAlone)
   down-fate true = refl
-  down-fate false = same
+  down-fate false = refl
 
   -- after any order
-  pub order-fate : (o : Order) → grounds (afterOrder p o .attributes) ≡ outcome p g (fate p o)
+  pub order-fate : (o : Order) → grounds (afterOrder p o .attributes) ≡ outcome p (fate p o)
   unfolding obeyed
-  order-fate Skip = same
-  order-fate Left = same
-  order-fate Right = same
-  order-fate Up = same
+  order-fate Skip = refl
+  order-fate Left = refl
+  order-fate Right = refl
+  order-fate Up = refl
   order-fate Down = down-fate (eqb (p .place .row) 0)
-  order-fate First = same
+  order-fate First = refl
   order-fate Clear = refl
   order-fate Home = refl
-  order-fate ShiftOut = same
-  order-fate ShiftIn = same
-  order-fate Show = same
-  order-fate Hide = same
+  order-fate ShiftOut = refl
+  order-fate ShiftIn = refl
+  order-fate Show = refl
+  order-fate Hide = refl
   order-fate (Pair c) = pair-fate c
   order-fate (Go r c) = go-fate (good r c) (at (r - 64) (c - 64))
-  order-fate (Write c) = written-fate (p .attributes .set) c
-  order-fate (Second c) = written-fate 2 c
+  order-fate (Write c) = written-fate (p .attributes .set) c 0
+  order-fate (Second c) = written-fate 2 c 0
   order-fate (Again n) = last-fate (p .last) n
 
 -- ---- what is unfinished does not matter
@@ -133,17 +127,16 @@ fate-any p q (Write c) = refl
 fate-any p q (Second c) = refl
 fate-any p q (Again n) = refl
 
-outcome-any : (p : Pen) (q : Sequence) (g : ℕ) (f : Fate) → outcome (withSequence p q) g f ≡ outcome p g f
-outcome-any p q g taken = refl
-outcome-any p q g (replaced x) = refl
-outcome-any p q g dropped = refl
-outcome-any p q g broughtBack = refl
-outcome-any p q g waits = refl
+outcome-any : (p : Pen) (q : Sequence) (f : Fate) → outcome (withSequence p q) f ≡ outcome p f
+outcome-any p q taken = refl
+outcome-any p q (awaited x) = refl
+outcome-any p q dropped = refl
+outcome-any p q broughtBack = refl
+outcome-any p q leftAlone = refl
 
 -- after any value
-pub value-fate : (p : Pen) (g b : ℕ) → p .attributes .waiting ≡ Ground g
-    → grounds (penAfter p b .attributes) ≡ outcome p g (fate p (ordered p b))
-value-fate p g b e =
-    order-fate (unfinished p b) g e (ordered p b)
-    ∙ ap (outcome (unfinished p b) g) (fate-any p (heard (p .sequence) b .sequence) (ordered p b))
-    ∙ outcome-any p (heard (p .sequence) b .sequence) g (fate p (ordered p b))
+pub value-fate : (p : Pen) (b : ℕ) → grounds (penAfter p b .attributes) ≡ outcome p (fate p (ordered p b))
+value-fate p b =
+    order-fate (unfinished p b) (ordered p b)
+    ∙ ap (outcome (unfinished p b)) (fate-any p (heard (p .sequence) b .sequence) (ordered p b))
+    ∙ outcome-any p (heard (p .sequence) b .sequence) (fate p (ordered p b))

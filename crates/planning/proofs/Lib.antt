@@ -1,5 +1,9 @@
+pub mod Worked
 pub mod Stays
 pub mod Plans
 pub mod Fates
+pub mod Lasts
+pub mod Mosaics
+pub mod Addressed
 pub mod Row0
 pub mod Reached

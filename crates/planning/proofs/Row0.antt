@@ -4,27 +4,25 @@ use mathlib.Core.Bool.{Bool, true, false, cond}
 use Prim.Native.Nat.{ℕ, zero, suc, _-_, _≤_}
 use native.Mathlib.Omega.{arith}
 use lib.Dec.{eqb, lit≤}
-use borrow.Author.Tests.{eq-eqb, ne-eqb, le-leb}
+use borrow.Author.Tests.{eq-eqb, ne-eqb}
 use Rattle.cursor.specs.declared.Place.{Place}
 use Rattle.cursor.specs.Places.{at}
 use Rattle.motion.specs.Moves.{downOf}
-use Rattle.addresses.specs.declared.Address.{Address}
 use Rattle.addresses.specs.declared.Address.the-variants.{Nowhere, There}
-use Rattle.addresses.specs.Addressing.{good, addressed}
-use Rattle.sequences.specs.declared.Sequence.{Sequence}
-use Rattle.sequences.specs.declared.Sequence.the-variants.{Free, Separator, Row}
+use Rattle.addresses.specs.Addressing.{good}
+use Rattle.sequences.specs.declared.Sequence.the-variants.{Free, Separator}
 use Rattle.sequences.specs.declared.Order.{Order}
 use Rattle.sequences.specs.declared.Order.the-variants.{Skip, Left, Right, Up, Down, First, Clear, Home}
 use Rattle.sequences.specs.declared.Order.the-variants.{ShiftOut, ShiftIn, Show, Hide, Pair, Go, Write}
 use Rattle.sequences.specs.declared.Order.the-variants.{Second, Again}
-use Rattle.sequences.specs.Hearing.{does, control, heard}
-use Rattle.sequences.proofs.Codes.{heard-code, heard-control}
+use Rattle.sequences.specs.Hearing.{control}
+use Rattle.sequences.proofs.Codes.{heard-control}
 use Rattle.pen.specs.declared.Last.{Last}
 use Rattle.pen.specs.declared.Last.the-variants.{Never, Character}
 use Rattle.pen.specs.declared.Pen.{Pen}
 use Rattle.pen.specs.Strokes.{afterTimes}
 use Rattle.planning.specs.Changing.{withPlace, withAttributes, withSequence}
-use Rattle.planning.specs.Obeying.{keeps, again, keeping, startAt, gone, obeyed}
+use Rattle.planning.specs.Obeying.{keeps, again, keeping, entering, startAt, gone, obeyed}
 use Rattle.planning.specs.Planning.{unfinished, ordered, planned, finished, afterOrder, penAfter}
 use Rattle.planning.proofs.Plans.{plan-heard}
 
@@ -84,21 +82,9 @@ kept-stays p b e = order-kept (unfinished p b) (ordered p b) e
 abbrev pub entered : Pen → ℕ → Pen
 entered p c = startAt (keeping (withSequence p Free)) (at 0 (c - 64))
 
--- where US leads
-leads : (c : ℕ) → 65 ≤ c → c ≤ 104 → addressed 64 c ≡ There (at 0 (c - 64))
-leads c h k = simp (le-leb 65 c h, le-leb c 104 k)
-
-entering-row : (p : Pen) (x : Place) → x .row ≡ 0 → 1 ≤ p .place .row → gone p (There x) ≡ startAt (keeping p) x
-unfolding gone
-entering-row p x e r = simp (eq-eqb (x .row) 0 e, ne-eqb (p .place .row) 0 (λ f. omega (arith, r, f)))
-
-pub enters : (p : Pen) (c : ℕ) → p .sequence ≡ Row 64 → 1 ≤ p .place .row → 65 ≤ c → c ≤ 104
-    → planned p c ≡ keeps (entered p c)
-unfolding obeyed
-enters p c q r h k =
-    plan-heard p c (does (Go 64 c)) (ap (λ (x : Sequence). heard x c) q ∙ heard-code (Row 64) c (omega (arith, h)))
-    ∙ ap (λ (a : Address). keeps (gone (withSequence p Free) a)) (leads c h k)
-    ∙ ap keeps (entering-row (withSequence p Free) (at 0 (c - 64)) refl r)
+-- US into row 0 from another row keeps what stands
+pub entering-row : (p : Pen) → 1 ≤ p .place .row → entering p 0 ≡ keeping p
+entering-row p r = simp (ne-eqb (p .place .row) 0 (λ f. omega (arith, r, f)))
 
 -- LF in row 0, not after SEP: no cell is asked for, and what was kept is back
 pub lf-back : (p : Pen) → (p .sequence ≡ Separator → ⊥) → p .place .row ≡ 0

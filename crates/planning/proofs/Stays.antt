@@ -1,6 +1,6 @@
 -- A value leaves a pen in range. Assumes nothing.
 use mathlib.Core.Path.{_≡_}
-use mathlib.Core.Bool.{Bool, true, false}
+use mathlib.Core.Bool.{Bool, true}
 use Prim.Native.Nat.{ℕ, _≤_}
 use native.Mathlib.Omega.{arith}
 use lib.Dec.{eqb, lit≤}
@@ -141,8 +141,8 @@ obeyed-in Clear k h = record { pen = start-at h home-on; asked = tt }
 obeyed-in Home k h = kept-in (start-at h home-on)
 obeyed-in ShiftOut k h = kept-in (attributes-in h (out-in (h .attributes)))
 obeyed-in ShiftIn k h = kept-in (attributes-in h (in-in (h .attributes)))
-obeyed-in Show k h = kept-in (shown-in true h)
-obeyed-in Hide k h = kept-in (shown-in false h)
+obeyed-in Show k h = kept-in (shown-in _ h)
+obeyed-in Hide k h = kept-in (shown-in _ h)
 obeyed-in (Pair c) k h = kept-in (attributes-in h (pair-in c (h .attributes)))
 obeyed-in (Go r c) k h = kept-in (gone-in (addressed r c) (address-on r c) h)
 obeyed-in (Write c) k h =

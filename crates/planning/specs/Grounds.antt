@@ -1,4 +1,4 @@
--- What becomes of a ground that waits (01, "Screen cells"). Assumes nothing.
+-- What becomes of the grounds, the one in force and one that waits (01, "Screen cells"). Assumes nothing.
 use mathlib.Core.Bool.{Bool, cond}
 use Prim.Native.Nat.{ℕ, zero, suc, _%_}
 use lib.Dec.{eqb}
@@ -17,51 +17,56 @@ use Rattle.pen.specs.declared.Last.the-variants.{Never, Character}
 use Rattle.pen.specs.declared.Pen.{Pen}
 
 pub data Fate : Type 0 where
-  -- it is in force, and none waits
+  -- what waits, if any does, is in force, and none waits
   taken : Fate
-  -- another waits in its place
-  replaced : ℕ → Fate
-  -- start attributes: none waits
+  -- this one waits from now on
+  awaited : ℕ → Fate
+  -- start attributes: ground 0, and none waits
   dropped : Fate
   -- the kept attributes are in force again, with what waited then
   broughtBack : Fate
-  -- it goes on waiting
-  waits : Fate
+  -- the ground in force stays, and so does what waits
+  leftAlone : Fate
 
 abbrev pub takenWhere : Bool → Fate
-takenWhere t = cond t taken waits
+takenWhere t = cond t taken leftAlone
 
 -- the last character written n times more: "by REP at least once"
 abbrev pub againFate : Last → ℕ → Fate
-againFate Never n = waits
-againFate (Character s d) zero = waits
+againFate Never n = leftAlone
+againFate (Character s d) zero = leftAlone
 againFate (Character s d) (suc n) = takenWhere (takes s d)
 
--- by what is ordered: a character that takes it, ESC 5/x, FF, RS, a good US, LF in row 0; after every other order it
--- waits
+-- by what is ordered: a character that takes a ground, ESC 5/x, FF, RS, a good US, LF in row 0; every other order leaves
+-- grounds alone
 abbrev pub fate : Pen → Order → Fate
 fate p (Write c) = takenWhere (takes (p .attributes .set) c)
 fate p (Second c) = takenWhere (takes 2 c)
 fate p (Again n) = againFate (p .last) n
-fate p (Pair c) = cond (namesGround c) (replaced (c % 16)) waits
+fate p (Pair c) = cond (namesGround c) (awaited (c % 16)) leftAlone
 fate p Clear = dropped
 fate p Home = dropped
-fate p (Go r c) = cond (good r c) dropped waits
-fate p Down = cond (eqb (p .place .row) 0) broughtBack waits
-fate p Skip = waits
-fate p Left = waits
-fate p Right = waits
-fate p Up = waits
-fate p First = waits
-fate p ShiftOut = waits
-fate p ShiftIn = waits
-fate p Show = waits
-fate p Hide = waits
+fate p (Go r c) = cond (good r c) dropped leftAlone
+fate p Down = cond (eqb (p .place .row) 0) broughtBack leftAlone
+fate p Skip = leftAlone
+fate p Left = leftAlone
+fate p Right = leftAlone
+fate p Up = leftAlone
+fate p First = leftAlone
+fate p ShiftOut = leftAlone
+fate p ShiftIn = leftAlone
+fate p Show = leftAlone
+fate p Hide = leftAlone
 
--- the ground in force and what waits after a fate, where ground g waited
-abbrev pub outcome : Pen → ℕ → Fate → ℕ × Waiting
-outcome p g taken = (g, Nothing)
-outcome p g (replaced x) = (p .attributes .ground, Ground x)
-outcome p g dropped = (0, Nothing)
-outcome p g broughtBack = grounds (p .kept .attributes)
-outcome p g waits = (p .attributes .ground, Ground g)
+-- the ground in force once what waits is taken, where g was
+abbrev pub takenFrom : Waiting → ℕ → ℕ
+takenFrom Nothing g = g
+takenFrom (Ground x) g = x
+
+-- the ground in force and what waits after a fate
+abbrev pub outcome : Pen → Fate → ℕ × Waiting
+outcome p taken = (takenFrom (p .attributes .waiting) (p .attributes .ground), Nothing)
+outcome p (awaited x) = (p .attributes .ground, Ground x)
+outcome p dropped = (0, Nothing)
+outcome p broughtBack = grounds (p .kept .attributes)
+outcome p leftAlone = grounds (p .attributes)

@@ -51,7 +51,8 @@ pub(crate) fn with_shown(mut pen: Pen, shown: bool) -> Pen
 pub(crate) fn start_at(pen: Pen, place: Place) -> Pen
     ensures { λ r. ⌜ r ≡ startAt pen place ⌝ }
 {
-    with_attributes(with_place(pen, place), attributes::start())
+    let start = attributes::start();
+    with_attributes(with_place(pen, place), start)
 }
 
 // LF: in row 0 back to what was kept.

@@ -5,5 +5,8 @@ pub mod Plain
 pub mod Answers
 pub mod Touched
 pub mod Repeated
+pub mod Shown
+pub mod Addressed
 pub mod Returned
+pub mod Lasting
 pub mod Given

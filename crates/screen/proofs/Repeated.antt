@@ -1,12 +1,13 @@
--- A character written, REP, and C0 codes within a sequence. Assumes nothing.
+-- A character written, REP, SS2, and C0 codes within a sequence. Assumes nothing.
 use mathlib.Core.Path.{_≡_, refl, sym, ap, _∙_}
-use Prim.Native.Nat.{ℕ, _-_, _≤_, _<_}
+use Prim.Native.Nat.{ℕ, _-_, _/_, _≤_, _<_}
 use Rattle.laws.proofs.Computed.{holds, fails}
 use Rattle.sequences.specs.declared.Sequence.{Sequence}
-use Rattle.sequences.specs.declared.Sequence.the-variants.{Free, Separator, Repeat}
-use Rattle.sequences.specs.declared.Order.the-variants.{Skip, Again}
+use Rattle.sequences.specs.declared.Sequence.the-variants.{Free, Separator, Repeat, Single}
+use Rattle.sequences.specs.declared.Order.the-variants.{Skip, Second, Again}
 use Rattle.sequences.specs.Hearing.{isFree, isSeparator, does, control, heard}
 use Rattle.sequences.proofs.Codes.{heard-control, heard-dropped, heard-repeat, heard-low}
+use Rattle.sequences.proofs.Codes.{heard-second, heard-swallowed}
 use Rattle.pen.specs.declared.Last.{Last}
 use Rattle.pen.specs.declared.Last.the-variants.{Never, Character}
 use Rattle.planning.specs.declared.Planned.{Planned}
@@ -67,6 +68,22 @@ never-step s n e l h =
     (plan-heard (s .pen) n (does (Again (n - 64)))
     (ap (λ (q : Sequence). heard q n) e ∙ heard-repeat n h)
     ∙ ap (λ (x : Last). again (withSequence (s .pen) Free) x (n - 64)) l)
+
+-- ---- SS2
+
+-- one character of G2, and none for a code of column 4
+pub second-step : (s : Screen) (b : ℕ) → s .pen .sequence ≡ Single → 32 ≤ b → (b / 16 ≡ 4 → ⊥)
+    → advanced s b ≡ written (ended s) 2 b
+unfolding obeyed applied writtenTimes
+second-step s b e h f =
+    step-plan s b _
+    (plan-heard (s .pen) b (does (Second b)) (ap (λ (q : Sequence). heard q b) e ∙ heard-second b h f))
+
+pub swallowed-step : (s : Screen) (b : ℕ) → s .pen .sequence ≡ Single → 32 ≤ b → b / 16 ≡ 4 → advanced s b ≡ ended s
+unfolding obeyed applied
+swallowed-step s b e h f =
+    step-plan s b _
+    (plan-heard (s .pen) b (does Skip) (ap (λ (q : Sequence). heard q b) e ∙ heard-swallowed b h f))
 
 -- ---- a C0 code within a sequence
 

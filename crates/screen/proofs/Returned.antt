@@ -1,14 +1,10 @@
 -- Row 0: LF there brings back what stood just before the US that entered it. Assumes nothing.
 use mathlib.Core.Path.{_≡_, refl, ap, _∙_}
-use mathlib.Core.List.{List, [], _∷_, _++_}
-use Prim.Native.Nat.{ℕ, zero, suc, _≤_}
+use mathlib.Core.List.{List, [], _∷_}
+use Prim.Native.Nat.{ℕ, zero, suc, _-_, _≤_}
 use lib.Dec.{lit≤}
-use lib.ListN.{replicate}
-use Rattle.sequences.specs.declared.Sequence.{Sequence}
-use Rattle.sequences.specs.declared.Sequence.the-variants.{Separator, Address, Row}
-use Rattle.sequences.specs.Hearing.{control, opens}
-use Rattle.sequences.proofs.Codes.{heard-code, heard-control}
-use Rattle.attributes.specs.declared.Waiting.the-variants.{Ground}
+use Rattle.cursor.specs.Places.{at}
+use Rattle.sequences.specs.declared.Sequence.the-variants.{Free, Separator}
 use Rattle.attributes.specs.Attributing.{grounds}
 use Rattle.pen.specs.declared.Pen.{Pen}
 use Rattle.pen.specs.declared.Kept.{Kept}
@@ -16,17 +12,17 @@ use Rattle.pen.specs.Strokes.{afterTimes}
 use Rattle.planning.specs.declared.Asked.{Asked}
 use Rattle.planning.specs.declared.Asked.the-variants.{Nothing, Blank, Put}
 use Rattle.planning.specs.Changing.{withSequence}
-use Rattle.planning.specs.Obeying.{obeyed}
+use Rattle.planning.specs.Obeying.{startAt}
 use Rattle.planning.specs.Planning.{ordered, planned, finished, penAfter}
 use Rattle.planning.specs.Grounds.{fate, outcome}
-use Rattle.planning.proofs.Plans.{plan-heard}
 use Rattle.planning.proofs.Fates.{value-fate}
-use Rattle.planning.proofs.Row0.{kept-stays, entered, enters, lf-back}
+use Rattle.planning.proofs.Row0.{kept-stays, entered, entering-row, lf-back}
 use Rattle.page.specs.declared.Screen.{Screen}
 use Rattle.page.specs.Pages.{withPen}
 use Rattle.screen.specs.Screens.{written, writtenTimes, applied, advanced, advancedBy}
 use Rattle.screen.specs.Claims.{enteringRow0, StaysInRow0, done, next}
-use Rattle.screen.proofs.Repeated.{step-plan, nul-step}
+use Rattle.screen.proofs.Repeated.{step-plan}
+use Rattle.screen.proofs.Addressed.{us-screen}
 
 -- ---- the pen after one value
 
@@ -49,49 +45,19 @@ pub step-pen : (s : Screen) (b : ℕ) → advanced s b .pen ≡ penAfter (s .pen
 unfolding advanced
 step-pen s b = applied-pen s (planned (s .pen) b .pen) (planned (s .pen) b .asked)
 
--- so what becomes of a waiting ground is what becomes of it in the pen
-pub step-fate : (s : Screen) (g b : ℕ) → s .pen .attributes .waiting ≡ Ground g
-    → grounds (advanced s b .pen .attributes) ≡ outcome (s .pen) g (fate (s .pen) (ordered (s .pen) b))
-step-fate s g b e = ap (λ (p : Pen). grounds (p .attributes)) (step-pen s b) ∙ value-fate (s .pen) g b e
+-- so what becomes of the grounds is what becomes of them in the pen
+pub step-fate : (s : Screen) (b : ℕ)
+    → grounds (advanced s b .pen .attributes) ≡ outcome (s .pen) (fate (s .pen) (ordered (s .pen) b))
+step-fate s b = ap (λ (p : Pen). grounds (p .attributes)) (step-pen s b) ∙ value-fate (s .pen) b
 
 -- ---- US into row 0
-
--- NULs change nothing
-nuls : (s : Screen) (i : ℕ) (bs : List ℕ) → advancedBy s (replicate i 0 ++ bs) ≡ advancedBy s bs
-unfolding advancedBy
-nuls s zero bs = refl
-nuls s (suc i) bs = ap (λ (x : Screen). advancedBy x (replicate i 0 ++ bs)) (nul-step s) ∙ nuls s i bs
-
-with : Screen → Sequence → Screen
-with s q = withPen s (withSequence (s .pen) q)
-
-us : (s : Screen) → (s .pen .sequence ≡ Separator → ⊥) → advanced s 31 ≡ with s Address
-unfolding with obeyed applied
-us s e =
-    step-plan s 31 _
-    (plan-heard (s .pen) 31 (control 31) (heard-control (s .pen .sequence) 31 e (lit≤ tt) (lit≤ tt)))
-
-row : (s : Screen) → advanced (with s Address) 64 ≡ with s (Row 64)
-unfolding with obeyed applied
-row s =
-    step-plan (with s Address) 64 _
-    (plan-heard (with s Address .pen) 64 (opens (Row 64)) (heard-code Address 64 (lit≤ tt)))
-
-column : (s : Screen) (c : ℕ) → 1 ≤ s .pen .place .row → 65 ≤ c → c ≤ 104
-    → advanced (with s (Row 64)) c ≡ withPen s (entered (s .pen) c)
-unfolding with applied
-column s c r h k = step-plan (with s (Row 64)) c _ (enters (with s (Row 64) .pen) c refl r h k)
 
 -- the screen in row 0
 pub entering : (s : Screen) (i j c : ℕ) → (s .pen .sequence ≡ Separator → ⊥) → 1 ≤ s .pen .place .row
     → 65 ≤ c → c ≤ 104 → advancedBy s (enteringRow0 i j c) ≡ withPen s (entered (s .pen) c)
-unfolding advancedBy
 entering s i j c e r h k =
-    ap (λ (x : Screen). advancedBy x (replicate i 0 ++ (64 ∷ replicate j 0 ++ (c ∷ [])))) (us s e)
-    ∙ nuls (with s Address) i (64 ∷ replicate j 0 ++ (c ∷ []))
-    ∙ ap (λ (x : Screen). advancedBy x (replicate j 0 ++ (c ∷ []))) (row s)
-    ∙ nuls (with s (Row 64)) j (c ∷ [])
-    ∙ column s c r h k
+    us-screen s i j 64 c e (record { lowest = lit≤ tt; highest = lit≤ tt; first = h; last = k })
+    ∙ ap (λ (p : Pen). withPen s (startAt p (at 0 (c - 64)))) (entering-row (withSequence (s .pen) Free) r)
 
 -- ---- while the cursor stays there
 

@@ -7,7 +7,7 @@ use native.Mathlib.Nat.{le-of-suc-le-suc, not-suc-le-zero}
 use native.Mathlib.Omega.{arith}
 use lib.Dec.{eqb, lit≤}
 use lib.ListN.{getD}
-use lib.Seq.{getD-set-same, getD-set-other}
+use lib.Seq.{getD-set-other}
 use borrow.Author.Tests.{eqb-true, eqb-false}
 use Rattle.laws.proofs.Computed.{each, holds, fails}
 use Rattle.cursor.specs.declared.Place.{Place}
@@ -25,7 +25,6 @@ use Rattle.cells.specs.Characters.{blankOf}
 use Rattle.sheet.specs.Clearing.{cleared}
 use Rattle.sheet.proofs.Blanked.{row-0-kept, others-blank}
 use Rattle.pen.specs.declared.Pen.{Pen}
-use Rattle.pen.specs.Strokes.{stroke}
 use Rattle.planning.specs.declared.Asked.{Asked}
 use Rattle.planning.specs.declared.Asked.the-variants.{Nothing, Blank, Put}
 use Rattle.planning.specs.Obeying.{obeyed}
@@ -51,15 +50,15 @@ one-place {x} {y} h k e =
 -- ---- characters
 
 -- where the cursor is after n characters
-abbrev moved : ℕ → Place → Place
+abbrev pub moved : ℕ → Place → Place
 moved zero x = x
 moved (suc n) x = rightOf (moved n x)
 
-moved-right : (n : ℕ) (x : Place) → moved n (rightOf x) ≡ rightOf (moved n x)
+pub moved-right : (n : ℕ) (x : Place) → moved n (rightOf x) ≡ rightOf (moved n x)
 moved-right zero x = refl
 moved-right (suc n) x = ap rightOf (moved-right n x)
 
-moved-on : (n : ℕ) {x : Place} → On x → On (moved n x)
+pub moved-on : (n : ℕ) {x : Place} → On x → On (moved n x)
 moved-on zero h = h
 moved-on (suc n) h = right-on (moved-on n h)
 
@@ -75,7 +74,7 @@ among-more (suc m) (suc n) x h (later a) = later (among-more m n (rightOf x) (le
 among-more (suc m) zero x h a = absurd (not-suc-le-zero h)
 
 -- the cursor after n characters, and a cell that none of them is written to
-times-place : (s : Screen) (a d n : ℕ) → writtenTimes s a d n .pen .place ≡ moved n (s .pen .place)
+pub times-place : (s : Screen) (a d n : ℕ) → writtenTimes s a d n .pen .place ≡ moved n (s .pen .place)
 unfolding writtenTimes written
 times-place s a d zero = refl
 times-place s a d (suc n) = ap rightOf (times-place s a d n)
@@ -92,17 +91,6 @@ times-cell s a d (suc n) x h k f =
   where
     same : indexOf x ≡ indexOf (writtenTimes s a d n .pen .place) → x ≡ moved n (s .pen .place)
     same e = one-place k (moved-on n h) (e ∙ ap indexOf (times-place s a d n))
-
--- a character is at the cursor's place, with its set and code
-pub character-there : (s : Screen) (a d : ℕ) → InScreen s
-    → (cellAt (written s a d) (s .pen .place) .set ≡ a) × (cellAt (written s a d) (s .pen .place) .code ≡ d)
-unfolding written
-character-there s a d h =
-    let e =
-    getD-set-same (s .cells) (indexOf (s .pen .place)) (stroke (s .pen) a d .cell) blankOf
-    (omega (arith, h .thousand, index-low (h .pen .place)))
-    in
-    (ap (λ (c : Cell). c .set) e, ap (λ (c : Cell). c .code) e)
 
 -- ---- any value
 

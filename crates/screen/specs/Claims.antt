@@ -6,6 +6,7 @@ use lib.ListN.{replicate}
 use Rattle.cursor.specs.declared.Place.{Place}
 use Rattle.motion.specs.Moves.{rightOf}
 use Rattle.sequences.specs.declared.Sequence.the-variants.{Free}
+use Rattle.attributes.specs.Attributing.{startOf}
 use Rattle.planning.specs.Changing.{withSequence}
 use Rattle.page.specs.declared.Screen.{Screen}
 use Rattle.page.specs.Pages.{withPen}
@@ -29,11 +30,24 @@ pub data Among (x : Place) : List Place → Type 0 where
 abbrev pub ended : Screen → Screen
 ended s = withPen s (withSequence (s .pen) Free)
 
+-- US and the codes r and c, with i and j times NUL between
+abbrev pub addressing : ℕ → ℕ → ℕ → ℕ → List ℕ
+addressing i j r c = 31 ∷ replicate i 0 ++ (r ∷ replicate j 0 ++ (c ∷ []))
+
+-- t has the cursor at place x, start attributes and nothing unfinished; the last character is that of s, and the cursor
+-- is shown as there
+pub record Starts (s t : Screen) (x : Place) : Type 0 where
+  pub place : t .pen .place ≡ x
+  pub attributes : t .pen .attributes ≡ startOf
+  pub sequence : t .pen .sequence ≡ Free
+  pub last : t .pen .last ≡ s .pen .last
+  pub shown : t .pen .shown ≡ s .pen .shown
+
 -- ---- row 0
 
 -- US, 4/0 and the column's code c, with i and j times NUL between
 abbrev pub enteringRow0 : ℕ → ℕ → ℕ → List ℕ
-enteringRow0 i j c = 31 ∷ replicate i 0 ++ (64 ∷ replicate j 0 ++ (c ∷ []))
+enteringRow0 i j c = addressing i j 64 c
 
 -- after each of the values the cursor is in row 0
 pub data StaysInRow0 : Screen → List ℕ → Type 0 where

@@ -2,29 +2,31 @@
 // hands back there.
 ghost use mathlib.Core.Path.{_≡_};
 ghost use mathlib.Core.Bool.{true, false, cond};
+ghost use mathlib.Core.List.{List};
 ghost use mathlib.Core.Logic.{_⊎_};
-ghost use Prim.Native.Nat.{ℕ, _-_, _≤_, _<_};
+ghost use Prim.Native.Nat.{ℕ, _-_, _/_, _≤_, _<_};
 ghost use lib.Dec.{eqb};
 ghost use Rattle.cursor.specs.declared.Place.{Place};
-ghost use Rattle.cursor.specs.Places.{On};
-ghost use Rattle.sequences.specs.declared.Sequence.the-variants.{Free, Separator, Repeat};
+ghost use Rattle.cursor.specs.Places.{at, On};
+ghost use Rattle.motion.specs.Moves.{rightOf};
+ghost use Rattle.sequences.specs.declared.Sequence.the-variants.{Free, Separator, Repeat, Single};
 ghost use Rattle.cells.specs.Characters.{blankOf};
-ghost use Rattle.attributes.specs.declared.Attributes.{Attributes};
-ghost use Rattle.attributes.specs.declared.Waiting.the-variants.{Ground};
-ghost use Rattle.attributes.specs.Attributing.{startOf, shiftedOut, shiftedIn, grounds, Upright};
-ghost use Rattle.pairs.specs.Pairing.{paired};
-ghost use Rattle.writing.specs.Writing.{takes, written as writtenWith};
+ghost use Rattle.attributes.specs.Attributing.{grounds, Upright};
+ghost use Rattle.writing.specs.Writing.{takes};
+ghost use Rattle.writing.specs.Having.{Has, Alike};
 ghost use Rattle.pen.specs.declared.Last.the-variants.{Never, Character};
 ghost use Rattle.planning.specs.Planning.{ordered};
 ghost use Rattle.planning.specs.Grounds.{fate, outcome};
+ghost use Rattle.planning.specs.Lasts.{lastAfter};
+ghost use Rattle.planning.specs.Naming.{Names};
 ghost use Rattle.planning.specs.Reach.{writes, clears};
 ghost use Rattle.page.specs.declared.Screen.{Screen};
-ghost use Rattle.page.specs.Pages.{cellAt};
+ghost use Rattle.page.specs.Pages.{freshScreen, cellAt};
 ghost use Rattle.page.specs.Ranges.{InScreen};
 ghost use Rattle.answers.specs.declared.Answer.the-variants.{Taken};
-ghost use Rattle.screen.specs.Screens.{written, writtenTimes, advanced};
-ghost use Rattle.screen.specs.Calls.{stepsTo, stepped};
-ghost use Rattle.screen.specs.Claims.{onwards, Among, ended};
+ghost use Rattle.screen.specs.Screens.{written, writtenTimes, advanced, advancedBy};
+ghost use Rattle.screen.specs.Calls.{stepsTo, stepped, ran};
+ghost use Rattle.screen.specs.Claims.{onwards, Among, ended, addressing, Starts};
 
 // Only three things change a cell: a code from 2/0 with nothing unfinished or after SS2, at most the cursor's cell; n
 // after REP, at most the first n minus 64 places from the cursor in writing order; and FF with no SEP open, which keeps
@@ -40,20 +42,65 @@ pub fn only_characters_and_ff_change_a_cell()
         → cellAt (advanced s b) x ≡ cond (eqb (x .row) 0) (cellAt s x) blankOf) ⌝ }
 {}
 
-// With nothing unfinished, a code from 2/0 is one character of the current set, at the cursor's place. REP n, n from
-// 4/0, is n minus 64 such characters, one after the other: the last one written, its own set and code, with the
-// attributes of the moment. With no last character, or n from 2/0 to 3/F, the sequence ends and nothing else happens.
+// With nothing unfinished, a code from 2/0 is one character of the current set, at the cursor's place; after SS2 it is
+// one of G2, and a code of column 4 none. The cell of a character has its set and code, the ink, flash and inverse in
+// force, and the ground in force with it; the cursor goes right, and of the attributes only the grounds can change. REP
+// n, n from 4/0, is n minus 64 such characters, one after the other: the last one written, its own set and code, with
+// the attributes of the moment, so that each of the first n minus 64 places from the cursor holds it. With no last
+// character, or n from 2/0 to 3/F, the sequence ends and nothing else happens.
 pub fn rep_is_single_characters()
     ensures one { λ _. ⌜ ((s : Screen) (b : ℕ) → s .pen .sequence ≡ Free → 32 ≤ b
         → advanced s b ≡ written s (s .pen .attributes .set) b) ⌝ }
-    ensures there { λ _. ⌜ ((s : Screen) (a d : ℕ) → InScreen s → (cellAt (written s a d) (s .pen .place) .set ≡ a)
-        × (cellAt (written s a d) (s .pen .place) .code ≡ d)) ⌝ }
+    ensures second { λ _. ⌜ ((s : Screen) (b : ℕ) → s .pen .sequence ≡ Single → 32 ≤ b
+        → ((b / 16 ≡ 4 → ⊥) → advanced s b ≡ written (ended s) 2 b) × (b / 16 ≡ 4 → advanced s b ≡ ended s)) ⌝ }
+    ensures there { λ _. ⌜ ((s : Screen) (a d : ℕ) → InScreen s
+        → Has (cellAt (written s a d) (s .pen .place)) a d (s .pen .attributes)
+        (written s a d .pen .attributes .ground)) ⌝ }
+    ensures leaves { λ _. ⌜ ((s : Screen) (a d : ℕ) → (written s a d .pen .place ≡ rightOf (s .pen .place))
+        × (written s a d .pen .last ≡ Character a d)
+        × Alike (s .pen .attributes) (written s a d .pen .attributes)) ⌝ }
     ensures again { λ _. ⌜ ((s : Screen) (a d n : ℕ) → s .pen .sequence ≡ Repeat → s .pen .last ≡ Character a d → 64 ≤ n
         → advanced s n ≡ writtenTimes (ended s) a d (n - 64)) ⌝ }
+    ensures each { λ _. ⌜ ((s : Screen) (a d n : ℕ) (x : Place) → InScreen s → s .pen .sequence ≡ Repeat
+        → s .pen .last ≡ Character a d → 64 ≤ n → Among x (onwards (n - 64) (s .pen .place))
+        → Has (cellAt (advanced s n) x) a d (s .pen .attributes) (advanced s n .pen .attributes .ground)) ⌝ }
     ensures never { λ _. ⌜ ((s : Screen) (n : ℕ) → s .pen .sequence ≡ Repeat → s .pen .last ≡ Never → 64 ≤ n
         → advanced s n ≡ ended s) ⌝ }
     ensures low { λ _. ⌜ ((s : Screen) (n : ℕ) → s .pen .sequence ≡ Repeat → 32 ≤ n → n < 64
         → advanced s n ≡ ended s) ⌝ }
+{}
+
+// The last character is changed by a written character alone, and then is that one: REP writes it, and leaves it. Only a
+// fresh screen has none: once there is one, no call leaves none.
+pub fn only_a_written_character_becomes_the_last()
+    ensures { λ _. ⌜ ((s : Screen) (b : ℕ) → advanced s b .pen .last ≡ lastAfter (s .pen) (ordered (s .pen) b)) ⌝ }
+    ensures anew { λ _. ⌜ freshScreen .pen .last ≡ Never ⌝ }
+    ensures stays { λ _. ⌜ ((s : Screen) → (s .pen .last ≡ Never → ⊥)
+        → ((b : ℕ) → stepped s b .screen .pen .last ≡ Never → ⊥)
+        × ((vs : List ℕ) → ran s vs .screen .pen .last ≡ Never → ⊥)) ⌝ }
+{}
+
+// FF and RS, not after SEP, give row 1, column 1 and the start attributes, none waiting, and end what was unfinished;
+// what is kept, the last character and whether the cursor is shown stay. RS leaves every cell.
+pub fn ff_and_rs_start_at_row_1()
+    ensures ff { λ _. ⌜ ((s : Screen) → (s .pen .sequence ≡ Separator → ⊥)
+        → Starts s (advanced s 12) (at 1 1) × (advanced s 12 .pen .kept ≡ s .pen .kept)) ⌝ }
+    ensures rs { λ _. ⌜ ((s : Screen) → (s .pen .sequence ≡ Separator → ⊥)
+        → Starts s (advanced s 30) (at 1 1) × (advanced s 30 .pen .kept ≡ s .pen .kept)
+        × (advanced s 30 .cells ≡ s .cells)) ⌝ }
+{}
+
+// US and two codes, not after SEP, NULs between them or not. Where they name a place, row r minus 64 in 0 to 24 and
+// column c minus 64 in 1 to 40, the cursor is there with the start attributes, none waiting, and no cell changes; what
+// is kept stays unless they name row 0. Where they name none, nothing changes but that the sequence is ended.
+pub fn us_starts_at_its_place_or_changes_nothing()
+    ensures good { λ _. ⌜ ((s : Screen) (i j r c : ℕ) → (s .pen .sequence ≡ Separator → ⊥) → Names r c
+        → let t = advancedBy s (addressing i j r c) in
+        Starts s t (at (r - 64) (c - 64)) × (t .cells ≡ s .cells)) ⌝ }
+    ensures kept { λ _. ⌜ ((s : Screen) (i j r c : ℕ) → (s .pen .sequence ≡ Separator → ⊥) → Names r c → 65 ≤ r
+        → advancedBy s (addressing i j r c) .pen .kept ≡ s .pen .kept) ⌝ }
+    ensures bad { λ _. ⌜ ((s : Screen) (i j r c : ℕ) → (s .pen .sequence ≡ Separator → ⊥) → 32 ≤ r → 32 ≤ c
+        → (Names r c → ⊥) → advancedBy s (addressing i j r c) ≡ ended s) ⌝ }
 {}
 
 // NUL changes nothing in any state. Any other C0 code inside a sequence acts as it would with nothing unfinished,
@@ -66,20 +113,26 @@ pub fn a_c0_code_ends_a_sequence()
         → advanced s b ≡ ended s) ⌝ }
 {}
 
-// What becomes of a ground g that waits, by what the value orders: a character that takes it puts it in force, and none
-// waits; ESC 5/x makes x wait; FF, RS and a good US leave none waiting; LF in row 0 brings back what was kept; after
-// every other value it waits. A G0 space or any G1 character takes a ground, and nothing else does.
+// What becomes of the ground in force and of one that waits, by what the value orders: a character that takes a ground
+// puts what waits, if any does, in force, and none waits then; ESC 5/x makes x wait; FF, RS and a good US give ground 0,
+// none waiting; LF in row 0 brings back what was kept; every other value leaves both. A G0 space or any G1 character
+// takes a ground, and nothing else does.
 pub fn a_waiting_ground_has_one_fate()
-    ensures { λ _. ⌜ ((s : Screen) (g b : ℕ) → s .pen .attributes .waiting ≡ Ground g
-        → grounds (advanced s b .pen .attributes) ≡ outcome (s .pen) g (fate (s .pen) (ordered (s .pen) b))) ⌝ }
+    ensures { λ _. ⌜ ((s : Screen) (b : ℕ)
+        → grounds (advanced s b .pen .attributes) ≡ outcome (s .pen) (fate (s .pen) (ordered (s .pen) b))) ⌝ }
     ensures takers { λ _. ⌜ ((c d : ℕ) → takes c d ≡ true → (c ≡ 1) ⊎ ((c ≡ 0) × (d ≡ 32))) ⌝ }
     ensures taken { λ _. ⌜ ((d : ℕ) → takes 1 d ≡ true) × (takes 0 32 ≡ true) ⌝ }
 {}
 
-// While G1 is current nothing is inverse: so it is at the start and after SO, and SI makes G0 current; no pair of ESC
-// and no character makes it otherwise.
-pub fn nothing_is_inverse_in_g1()
-    ensures begins { λ _. ⌜ Upright startOf × ((a : Attributes) → Upright (shiftedOut a) × (shiftedIn a .set ≡ 0)) ⌝ }
-    ensures stays { λ _. ⌜ ((a : Attributes) → Upright a → ((c : ℕ) → Upright (paired a c))
-        × ((c d : ℕ) → Upright (writtenWith a c d .attributes))) ⌝ }
+// While G1 is current, inverse is off in the attributes in force, and so in those kept: it is so on a fresh screen, and
+// every call leaves it so, whatever the values. A cell of G1 can be inverse: REP writes a mosaic with the attributes of
+// the moment.
+pub fn the_attributes_of_g1_are_never_inverse()
+    ensures anew { λ _. ⌜ Upright (freshScreen .pen .attributes) × Upright (freshScreen .pen .kept .attributes) ⌝ }
+    ensures steps { λ _. ⌜ ((s : Screen) (b : ℕ)
+        → Upright (s .pen .attributes) × Upright (s .pen .kept .attributes)
+        → Upright (stepped s b .screen .pen .attributes) × Upright (stepped s b .screen .pen .kept .attributes)) ⌝ }
+    ensures runs { λ _. ⌜ ((s : Screen) (vs : List ℕ)
+        → Upright (s .pen .attributes) × Upright (s .pen .kept .attributes)
+        → Upright (ran s vs .screen .pen .attributes) × Upright (ran s vs .screen .pen .kept .attributes)) ⌝ }
 {}

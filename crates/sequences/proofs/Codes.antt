@@ -1,15 +1,15 @@
 -- What a code gives, by what is unfinished. Assumes nothing.
-use mathlib.Core.Path.{_≡_, refl, _∙_}
-use mathlib.Core.Bool.{true, false}
-use Prim.Native.Nat.{ℕ, _-_, _≤_, _<_}
+use mathlib.Core.Path.{_≡_, refl, ap, _∙_}
+use mathlib.Core.Bool.{Bool, true, false, cond}
+use Prim.Native.Nat.{ℕ, _-_, _/_, _≤_, _<_}
 use native.Mathlib.Omega.{arith}
 use lib.Dec.{ltb}
-use borrow.Author.Tests.{lt-ltb, le-ltb, ne-eqb}
+use borrow.Author.Tests.{lt-ltb, le-ltb, eq-eqb, ne-eqb}
 use Rattle.laws.proofs.Computed.{holds, chosen}
 use Rattle.sequences.specs.declared.Sequence.{Sequence}
 use Rattle.sequences.specs.declared.Sequence.the-variants.{Free, Escape, Long, Control, Separator, Repeat}
 use Rattle.sequences.specs.declared.Sequence.the-variants.{Single, Address, Row}
-use Rattle.sequences.specs.declared.Order.the-variants.{Skip, Write, Again}
+use Rattle.sequences.specs.declared.Order.the-variants.{Skip, Write, Second, Again}
 use Rattle.sequences.specs.declared.Heard.{Heard}
 use Rattle.sequences.specs.Hearing.{isFree, isSeparator, does, control, followed, heard}
 
@@ -56,8 +56,20 @@ heard-dropped b l =
 
 -- REP n from 4/0 orders the last character n minus 64 times more
 pub heard-repeat : (n : ℕ) → 64 ≤ n → heard Repeat n ≡ does (Again (n - 64))
-heard-repeat n h = heard-code Repeat n (omega (arith, h)) ∙ simp (le-ltb n 64 h)
+heard-repeat n h =
+    heard-code Repeat n (omega (arith, h))
+    ∙ ap (λ (t : Bool). cond t (does Skip) (does (Again (n - 64)))) (le-ltb n 64 h)
 
 -- and any lower code ends it
 pub heard-low : (n : ℕ) → 32 ≤ n → n < 64 → heard Repeat n ≡ does Skip
-heard-low n h k = heard-code Repeat n h ∙ simp (lt-ltb n 64 k)
+heard-low n h k =
+    heard-code Repeat n h ∙ ap (λ (t : Bool). cond t (does Skip) (does (Again (n - 64)))) (lt-ltb n 64 k)
+
+-- SS2 and a code from 2/0 order a G2 character, and one of column 4 nothing
+pub heard-second : (c : ℕ) → 32 ≤ c → (c / 16 ≡ 4 → ⊥) → heard Single c ≡ does (Second c)
+heard-second c h f =
+    heard-code Single c h ∙ ap (λ (t : Bool). cond t (does Skip) (does (Second c))) (ne-eqb (c / 16) 4 f)
+
+pub heard-swallowed : (c : ℕ) → 32 ≤ c → c / 16 ≡ 4 → heard Single c ≡ does Skip
+heard-swallowed c h e =
+    heard-code Single c h ∙ ap (λ (t : Bool). cond t (does Skip) (does (Second c))) (eq-eqb (c / 16) 4 e)

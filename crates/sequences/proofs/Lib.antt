@@ -1,2 +1,4 @@
-pub mod Stays
+pub mod Worked
 pub mod Codes
+pub mod Stays
+pub mod Opened

@@ -92,9 +92,13 @@ escaped c = cond (ltb c 48) (opens Long) (cond (eqb c 91) (opens Control) (does 
 abbrev pub dropped : Sequence → ℕ → ℕ → Heard
 dropped q from c = cond (leb from c && leb c 126) (does Skip) (opens q)
 
+-- 4/0: no times more
+abbrev pub noTimes : ℕ
+noTimes = 64
+
 -- "REP n, n from 4/0 to 7/F: .. n minus 64 times more"; "Other n from 2/0: dropped"
 abbrev pub again : ℕ → Heard
-again c = cond (ltb c 64) (does Skip) (does (Again (c - 64)))
+again c = cond (ltb c noTimes) (does Skip) (does (Again (c - noTimes)))
 
 -- "SS2 and a code from 2/0: a G2 cell; a code of column 4 is swallowed"
 abbrev pub single : ℕ → Heard

@@ -1,6 +1,7 @@
 -- Attributes in range stay so when a character is written, and its cell is in range. Assumes nothing.
 use mathlib.Core.Bool.{Bool}
 use Prim.Native.Nat.{ℕ}
+use native.Mathlib.Omega.{arith}
 use Rattle.laws.proofs.Computed.{chosen}
 use Rattle.cells.specs.Within.{Character, InCell}
 use Rattle.attributes.specs.declared.Waiting.{Waiting}
@@ -8,6 +9,7 @@ use Rattle.attributes.specs.declared.Waiting.the-variants.{Nothing, Ground}
 use Rattle.attributes.specs.declared.Attributes.{Attributes}
 use Rattle.attributes.specs.Within.{InWaiting, InForce}
 use Rattle.writing.specs.Writing.{takes, afterWaiting, afterWriting, cellOf}
+use Rattle.writing.proofs.Cells.{cell-has}
 
 waited-in : {a : Attributes} (w : Waiting) (t : Bool) → InWaiting w → InForce a → InForce (afterWaiting w a t)
 waited-in Nothing t k h = h
@@ -18,4 +20,15 @@ pub write-in : {a : Attributes} (s d : ℕ) → InForce a → InForce (afterWrit
 write-in {a} s d h = waited-in (a .waiting) (takes s d) (h .waiting) h
 
 pub cell-in : {a : Attributes} {s d : ℕ} → Character s d → InForce a → InCell (cellOf a s d)
-cell-in k h = record { character = k; ink = h .ink; ground = h .ground }
+cell-in {a} {s} {d} k h =
+    let c = cell-has a s d in
+    record {
+      character =
+          record {
+            set = omega (arith, k .set, c .set);
+            low = omega (arith, k .low, c .code);
+            high = omega (arith, k .high, c .code);
+          };
+      ink = omega (arith, h .ink, c .ink);
+      ground = omega (arith, h .ground, c .ground);
+    }

@@ -1,7 +1,7 @@
 // A character written with the attributes in force (01, "Screen cells"): the ground that it takes, and its cell.
 //
-// specs/Writing says both; proofs/Stays shows that attributes in range stay so, proofs/Takers what takes a ground, and
-// proofs/Mosaics that writing makes nothing inverse.
+// specs/Writing says both; proofs/Cells shows what the cell has, proofs/Stays that attributes in range stay so,
+// proofs/Takers what takes a ground, and proofs/Mosaics that writing makes nothing inverse.
 ghost use mathlib.Core.Path.{_≡_};
 ghost use Rattle.writing.specs.Writing.{takes, afterWriting, written};
 use attributes::Attributes;
@@ -55,14 +55,17 @@ fn after(attributes: Attributes, set: u8, code: u8) -> Attributes
 pub fn write(attributes: Attributes, set: u8, code: u8) -> Written
     ensures { λ r. ⌜ r ≡ written attributes set code ⌝ }
 {
-    let attributes = after(attributes, set, code);
+    let next = after(attributes, set, code);
     let cell = Cell {
         set,
         code,
-        ink: attributes.ink,
-        ground: attributes.ground,
-        flash: attributes.flash,
-        inverse: attributes.inverse,
+        ink: next.ink,
+        ground: next.ground,
+        flash: next.flash,
+        inverse: next.inverse,
     };
-    Written { attributes, cell }
+    Written {
+        attributes: next,
+        cell,
+    }
 }

@@ -1,5 +1,5 @@
 -- `screen::run` meets its contract. Assumes nothing.
-use mathlib.Core.Path.{_≡_, sym, ap₂, _∙_}
+use mathlib.Core.Path.{_≡_, sym, _∙_}
 use mathlib.Core.Bool.{false}
 use Prim.Native.Nat.{_≤_}
 use lib.ListN.{length}
@@ -9,8 +9,8 @@ use Rattle.values.specs.Large.{firstLarge}
 use Rattle.values.proofs.Found.{all-small}
 use Rattle.page.specs.Ranges.{broken}
 use Rattle.page.proofs.Stays.{whole}
-use Rattle.screen.specs.Calls.{answered, runsTo}
-use Rattle.screen.proofs.Answers.{ran-refused, ran-taken}
+use Rattle.screen.specs.Calls.{answered, ran}
+use Rattle.screen.proofs.Answers.{ran-refused}
 use Rattle.screen.proofs.run.Statement.{statement}
 use Rattle.screen.proofs.run.Tie as tie
 
@@ -48,11 +48,10 @@ advance-requires : tie.Need-advance-requires
 advance-requires c κs = (whole _ (taken c .0), all-small _ (taken c .1))
 
 returns-2 : tie.Need-returns-2
+unfolding ran
 returns-2 c =
-    let a = c .before .before .before .before .before .before .before .args in
-    let t = taken (c .before) in
-    ap₂ runsTo (c .advance .ensures) (c .before .enum-told .given .1)
-    ∙ ran-taken (a .screen) (a .values .now) (t .0) (t .1)
+    let e = c .before .enum-told .given .1 in
+    simp (c .advance .ensures, e, ← as-answered (c .before .before .before))
 
 pub run-spec : {M : Type 1} → statement M
 run-spec =

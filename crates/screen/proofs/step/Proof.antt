@@ -1,6 +1,6 @@
 -- `screen::step` meets its contract: the range was tested, so the plan is that of a pen in range. Assumes
 -- nothing.
-use mathlib.Core.Path.{_≡_, sym, ap, ap₂, _∙_}
+use mathlib.Core.Path.{_≡_, sym, _∙_}
 use mathlib.Core.Bool.{false}
 use mathlib.Core.List.{[], _∷_}
 use Prim.Native.Nat.{_≤_}
@@ -10,16 +10,14 @@ use Rattle.answers.proofs.Given.{taken-only}
 use Rattle.values.proofs.Found.{all-small, values-head}
 use Rattle.pen.specs.Pens.{InPen}
 use Rattle.pen.proofs.Stays.{pen-true}
-use Rattle.planning.specs.declared.Planned.{Planned}
 use Rattle.planning.specs.Planning.{planned}
 use Rattle.planning.proofs.Stays.{planned-in}
 use Rattle.planning.proofs.Plans.{plan-tested}
 use Rattle.page.specs.Ranges.{broken}
 use Rattle.page.proofs.Stays.{whole, true-pen-in}
-use Rattle.screen.specs.Screens.{applied, advanced}
-use Rattle.screen.specs.Calls.{answered, stepsTo}
+use Rattle.screen.specs.Screens.{advanced}
+use Rattle.screen.specs.Calls.{answered, stepped}
 use Rattle.screen.proofs.Answers.{step-refused}
-use Rattle.screen.proofs.Given.{step-taken}
 use Rattle.screen.proofs.step.Statement.{statement}
 use Rattle.screen.proofs.step.Tie as tie
 
@@ -81,15 +79,11 @@ apply-requires c κs =
     rw (as-planned p) (planned-in _ (taken (p .before) .1) (good (p .before)) .pen .place)
 
 returns-2 : tie.Need-returns-2
-unfolding advanced
+unfolding stepped advanced
 returns-2 c =
     let p = c .before .before in
-    let a = p .before .before .before .before .before .before .before .args in
-    let t = taken (p .before) in
-    ap₂ stepsTo
-    (c .apply .ensures ∙ ap (λ (n : Planned). applied (a .screen) (n .pen) (n .asked)) (as-planned p))
-    (p .before .enum-told .given .1)
-    ∙ sym (step-taken (a .screen) (a .value) (t .0) (t .1))
+    let e = p .before .enum-told .given .1 in
+    simp (c .apply .ensures, as-planned p, e, ← as-answered (p .before .before .before))
 
 pub step-spec : {M : Type 1} → statement M
 step-spec =

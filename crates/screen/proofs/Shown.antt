@@ -1,0 +1,155 @@
+-- The cells of characters: one at the cursor, and the places that REP writes. Assumes nothing.
+use mathlib.Core.Path.{_≡_, refl, sym, ap, _∙_, subst, subst⁻¹}
+use mathlib.Core.Bool.{Bool, true, false}
+use mathlib.Core.Logic.{_⊎_, inl, inr, ⊎-elim}
+use Prim.Native.Nat.{ℕ, zero, suc, _-_, _≤_}
+use native.Mathlib.Omega.{arith}
+use lib.Dec.{eqb}
+use lib.ListN.{length, length-set, set, getD}
+use lib.Seq.{getD-set-same, getD-set-other}
+use borrow.Author.Tests.{eqb-true, eqb-false}
+use Rattle.cursor.specs.declared.Place.{Place}
+use Rattle.cursor.specs.Places.{On, indexOf}
+use Rattle.cursor.proofs.Tested.{index-low}
+use Rattle.motion.specs.Moves.{rightOf}
+use Rattle.sequences.specs.declared.Sequence.the-variants.{Repeat}
+use Rattle.cells.specs.declared.Cell.{Cell}
+use Rattle.cells.specs.Characters.{blankOf}
+use Rattle.attributes.specs.declared.Attributes.{Attributes}
+use Rattle.writing.specs.Writing.{afterWriting}
+use Rattle.writing.specs.Having.{Has, Alike}
+use Rattle.writing.proofs.Cells.{written-has, written-alike}
+use Rattle.writing.proofs.Takers.{written-twice}
+use Rattle.pen.specs.declared.Last.the-variants.{Character}
+use Rattle.pen.specs.declared.Pen.{Pen}
+use Rattle.pen.specs.Strokes.{stroke}
+use Rattle.page.specs.declared.Screen.{Screen}
+use Rattle.page.specs.Pages.{cellAt}
+use Rattle.page.specs.Ranges.{InScreen}
+use Rattle.screen.specs.Screens.{written, writtenTimes, advanced}
+use Rattle.screen.specs.Claims.{onwards, Among, here, later, ended}
+use Rattle.screen.proofs.Repeated.{again-step}
+use Rattle.screen.proofs.Touched.{moved, moved-right, moved-on, times-place}
+
+-- ---- one character
+
+-- what is stored at the cursor
+stored : (s : Screen) (a d : ℕ) (x : Place) → On (s .pen .place) → length (s .cells) ≡ 1000
+    → indexOf x ≡ indexOf (s .pen .place) → cellAt (written s a d) x ≡ stroke (s .pen) a d .cell
+unfolding written
+stored s a d x h l e =
+    ap (λ (i : ℕ). getD (set (s .cells) (indexOf (s .pen .place)) (stroke (s .pen) a d .cell)) i blankOf) e
+    ∙ getD-set-same (s .cells) (indexOf (s .pen .place)) (stroke (s .pen) a d .cell) blankOf
+    (omega (arith, l, index-low h))
+
+-- it has its set and code, the ink, flash and inverse in force, and the ground in force with it
+pub character-there : (s : Screen) (a d : ℕ) → InScreen s
+    → Has (cellAt (written s a d) (s .pen .place)) a d (s .pen .attributes) (written s a d .pen .attributes .ground)
+unfolding written
+character-there s a d h =
+    subst⁻¹ (λ (c : Cell). Has c a d (s .pen .attributes) (written s a d .pen .attributes .ground))
+    (stored s a d (s .pen .place) (h .pen .place) (h .thousand) refl)
+    (written-has (s .pen .attributes) a d)
+
+-- and it moves the cursor right, is the last character, and leaves all but the grounds
+pub character-leaves : (s : Screen) (a d : ℕ)
+    → (written s a d .pen .place ≡ rightOf (s .pen .place)) × (written s a d .pen .last ≡ Character a d)
+    × Alike (s .pen .attributes) (written s a d .pen .attributes)
+unfolding written
+character-leaves s a d = (refl, refl, written-alike (s .pen .attributes) a d)
+
+-- ---- the same one again and again
+
+-- of one place more, the last or one of the others
+among-split : (n : ℕ) (x : Place) {y : Place} → Among y (onwards (suc n) x)
+    → Among y (onwards n x) ⊎ (y ≡ moved n x)
+among-split zero x here = inr refl
+among-split (suc n) x here = inl here
+among-split (suc n) x {y} (later m) =
+    ⊎-elim (λ (i : Among y (onwards n (rightOf x))). inl (later i)) (λ e. inr (e ∙ moved-right n x))
+    (among-split n (rightOf x) m)
+
+module _ (s : Screen) (a d : ℕ) (h : On (s .pen .place)) (l : length (s .cells) ≡ 1000) where
+  abbrev after : ℕ → Screen
+  after n = writtenTimes s a d n
+
+  long : (n : ℕ) → length (after n .cells) ≡ 1000
+  unfolding writtenTimes written
+  long zero = l
+  long (suc n) = length-set (after n .cells) (indexOf (after n .pen .place)) _ ∙ long n
+
+  on : (n : ℕ) → On (after n .pen .place)
+  on n = subst⁻¹ On (times-place s a d n) (moved-on n h)
+
+  -- ink, flash and inverse stay
+  alike : (n : ℕ) → Alike (s .pen .attributes) (after n .pen .attributes)
+  unfolding writtenTimes written
+  alike zero = record { set = refl; ink = refl; flash = refl; inverse = refl }
+  alike (suc n) =
+      let k = alike n in
+      let w = written-alike (after n .pen .attributes) a d in
+      record {
+        set = w .set ∙ k .set;
+        ink = w .ink ∙ k .ink;
+        flash = w .flash ∙ k .flash;
+        inverse = w .inverse ∙ k .inverse;
+      }
+
+  -- and from the first one on the ground does
+  same : (n : ℕ) → after (suc n) .pen .attributes ≡ afterWriting (s .pen .attributes) a d
+  unfolding writtenTimes written
+  same zero = refl
+  same (suc n) =
+      ap (λ (b : Attributes). afterWriting b a d) (same n) ∙ written-twice (s .pen .attributes) a d
+
+  -- the cell of one of them
+  abbrev Fits : ℕ → Cell → Type 0
+  Fits n c = Has c a d (s .pen .attributes) (after n .pen .attributes .ground)
+
+  newest : (n : ℕ) → Fits (suc n) (stroke (after n .pen) a d .cell)
+  unfolding writtenTimes written
+  newest n =
+      let w = written-has (after n .pen .attributes) a d in
+      let k = alike n in
+      record {
+        set = w .set;
+        code = w .code;
+        ink = w .ink ∙ k .ink;
+        ground = w .ground;
+        flash = w .flash ∙ k .flash;
+        inverse = w .inverse ∙ k .inverse;
+      }
+
+  at-cursor : (n : ℕ) (x : Place) → indexOf x ≡ indexOf (after n .pen .place) → Fits (suc n) (cellAt (after (suc n)) x)
+  unfolding writtenTimes
+  at-cursor n x e = subst⁻¹ (Fits (suc n)) (stored (after n) a d x (on n) (long n) e) (newest n)
+
+  -- one written before stays, or is written over with the same
+  earlier : (n : ℕ) (x : Place) (t : Bool) → eqb (indexOf x) (indexOf (after (suc n) .pen .place)) ≡ t
+      → Fits (suc n) (cellAt (after (suc n)) x) → Fits (suc (suc n)) (cellAt (after (suc (suc n))) x)
+  unfolding writtenTimes written
+  earlier n x true e f = at-cursor (suc n) x (eqb-true _ _ e)
+  earlier n x false e f =
+      subst⁻¹ (Fits (suc (suc n)))
+      (getD-set-other (after (suc n) .cells) (indexOf (after (suc n) .pen .place)) (indexOf x) _ blankOf
+      (eqb-false _ _ e))
+      (subst (λ (b : Attributes). Has (cellAt (after (suc n)) x) a d (s .pen .attributes) (b .ground))
+      (same n ∙ sym (same (suc n))) f)
+
+  kept : (n : ℕ) (x : Place) → Among x (onwards n (s .pen .place)) → Fits n (cellAt (after n) x)
+      → Fits (suc n) (cellAt (after (suc n)) x)
+  kept (suc n) x i f = earlier n x _ refl f
+
+  pub times-there : (n : ℕ) (x : Place) → Among x (onwards n (s .pen .place)) → Fits n (cellAt (after n) x)
+  times-there (suc n) x m =
+      ⊎-elim (λ (i : Among x (onwards n (s .pen .place))). kept n x i (times-there n x i))
+      (λ e. at-cursor n x (ap indexOf (e ∙ sym (times-place s a d n)))) (among-split n (s .pen .place) m)
+
+-- each of the n minus 64 places that REP n writes holds the last character
+pub again-there : (s : Screen) (a d n : ℕ) (x : Place) → InScreen s → s .pen .sequence ≡ Repeat
+    → s .pen .last ≡ Character a d → 64 ≤ n → Among x (onwards (n - 64) (s .pen .place))
+    → Has (cellAt (advanced s n) x) a d (s .pen .attributes) (advanced s n .pen .attributes .ground)
+again-there s a d n x h q e k m =
+    subst⁻¹ (λ (t : Screen). Has (cellAt t x) a d (s .pen .attributes) (t .pen .attributes .ground))
+    (again-step s a d n q e k)
+    (times-there (ended s) a d (h .pen .place) (h .thousand) (n - 64) x m)

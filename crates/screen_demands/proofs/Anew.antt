@@ -1,0 +1,14 @@
+-- A fresh screen: no last character, and nothing inverse. Assumes nothing.
+use mathlib.Core.Path.{_≡_, refl}
+use Rattle.attributes.specs.Attributing.{Upright}
+use Rattle.pen.specs.declared.Last.the-variants.{Never}
+use Rattle.page.specs.Pages.{freshScreen}
+use Rattle.planning.proofs.Mosaics.{fresh-upright as pen-upright}
+
+pub fresh-never : freshScreen .pen .last ≡ Never
+unfolding freshScreen
+fresh-never = refl
+
+pub fresh-upright : Upright (freshScreen .pen .attributes) × Upright (freshScreen .pen .kept .attributes)
+unfolding freshScreen
+fresh-upright = pen-upright

@@ -1,0 +1,21 @@
+-- What the claims on written cells speak of (01, "Screen cells"). Assumes nothing.
+use mathlib.Core.Path.{_≡_}
+use Prim.Native.Nat.{ℕ}
+use Rattle.cells.specs.declared.Cell.{Cell}
+use Rattle.attributes.specs.declared.Attributes.{Attributes}
+
+-- a cell of set s and code d, with the ink, flash and inverse of these attributes, and with ground g
+pub record Has (c : Cell) (s d : ℕ) (a : Attributes) (g : ℕ) : Type 0 where
+  pub set : c .set ≡ s
+  pub code : c .code ≡ d
+  pub ink : c .ink ≡ a .ink
+  pub ground : c .ground ≡ g
+  pub flash : c .flash ≡ a .flash
+  pub inverse : c .inverse ≡ a .inverse
+
+-- attributes alike in all but their grounds
+pub record Alike (a b : Attributes) : Type 0 where
+  pub set : b .set ≡ a .set
+  pub ink : b .ink ≡ a .ink
+  pub flash : b .flash ≡ a .flash
+  pub inverse : b .inverse ≡ a .inverse
