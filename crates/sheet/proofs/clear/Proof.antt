@@ -18,7 +18,7 @@ abbrev Inv-loop : tie.InvT-loop
 Inv-loop old cells₀ i₀ cells i = (i ≤ 40) × (cells ≡ take i (old) ++ drop i (replicate 1000 blankOf))
 
 abbrev μ-loop : tie.MeasureT-loop
-μ-loop old cells₀ i₀ cells i = 40 - i
+μ-loop old cells₀ i₀ cells i = 1000 - i
 
 blank-requires : tie.Need-blank-requires Inv-loop μ-loop
 blank-requires c κs = search needs
