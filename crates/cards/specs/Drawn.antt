@@ -73,10 +73,14 @@ abbrev pub codes : ℕ → ℕ → List ℕ
 codes c zero = []
 codes c (suc n) = c ∷ codes (c + 1) n
 
--- ESC before each of these
+-- each of these with b behind it, and with ESC before it too
+abbrev pub lettered : List ℕ → List ℕ
+lettered [] = []
+lettered (c ∷ cs) = c ∷ 98 ∷ lettered cs
+
 abbrev pub pairs : List ℕ → List ℕ
 pairs [] = []
-pairs (c ∷ cs) = esc ∷ c ∷ pairs cs
+pairs (c ∷ cs) = esc ∷ c ∷ 98 ∷ pairs cs
 
 -- ---- cells
 

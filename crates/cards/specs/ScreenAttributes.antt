@@ -1,8 +1,10 @@
 -- Our own cards of the screen (01, "Screen cells"): inks, grounds, flash and inverse, the sets, the cursor shown.
 -- Letters are a (97) to h (104). Assumes nothing.
 use mathlib.Core.List.{List, [], _∷_, _++_}
+use Prim.Native.Nat.{ℕ}
+use lib.ListN.{replicate}
 use Rattle.cards.specs.Drawn.{bs, ht, lf, vt, cr, so, si, con, coff, ss2, esc}
-use Rattle.cards.specs.Drawn.{codes, pairs, cell, flashing, inverted, plain, blanks, rows}
+use Rattle.cards.specs.Drawn.{codes, lettered, pairs, cell, flashing, inverted, plain, blanks, rows}
 use Rattle.cards.specs.Drawn.{those, start, awaiting, flash, inverse}
 use Rattle.cards.specs.Drawn.{pen, lately, visible}
 use Rattle.cards.specs.Cards.{Card, shown}
@@ -53,22 +55,24 @@ noTaker =
     ∷ cell 0 98 7 5 ∷ [] ++ blanks 33 ++ rows 23)
     (lately 0 98 (pen 1 8 (awaiting 5 (those 0 7 5))))
 
--- "ESC 4/8 flash, 4/9 steady; 5/D inverse .., 5/C normal"
+-- "ESC 4/8 flash, 4/9 steady; 5/D inverse .., 5/C normal", on a space too
 abbrev pub flashAndInverse : Card
 flashAndInverse =
     shown
     (esc ∷ 72 ∷ 97 ∷ esc ∷ 73 ∷ 98 ∷ esc ∷ 93 ∷ 99 ∷ esc ∷ 72 ∷ 100 ∷ esc ∷ 92 ∷ 101 ∷ esc ∷ 73 ∷ 102
-    ∷ esc ∷ 93 ∷ esc ∷ 72 ∷ [])
+    ∷ esc ∷ 93 ∷ esc ∷ 72 ∷ 32 ∷ [])
     (rows 1 ++ flashing (plain 97) ∷ plain 98 ∷ inverted (plain 99) ∷ flashing (inverted (plain 100))
-    ∷ flashing (plain 101) ∷ plain 102 ∷ [] ++ blanks 34 ++ rows 23)
-    (lately 0 102 (pen 1 7 (flash (inverse start))))
+    ∷ flashing (plain 101) ∷ plain 102 ∷ flashing (inverted (plain 32)) ∷ [] ++ blanks 33 ++ rows 23)
+    (lately 0 32 (pen 1 8 (flash (inverse start))))
 
--- "SO: set G1, inverse off"; "5/D inverse (no action in G1)"; "SI: set G0"
+-- "SO: set G1, inverse off"; "5/D inverse (no action in G1)", though 4/8 and 4/9 act there; "SI: set G0"
 abbrev pub uprightInG1 : Card
 uprightInG1 =
     shown
-    (esc ∷ 93 ∷ 97 ∷ so ∷ 98 ∷ esc ∷ 93 ∷ 99 ∷ si ∷ 100 ∷ esc ∷ 93 ∷ 101 ∷ so ∷ si ∷ 102 ∷ [])
-    (rows 1 ++ inverted (plain 97) ∷ cell 1 98 7 0 ∷ cell 1 99 7 0 ∷ plain 100 ∷ inverted (plain 101) ∷ plain 102 ∷ []
+    (esc ∷ 93 ∷ 97 ∷ so ∷ esc ∷ 72 ∷ 98 ∷ esc ∷ 73 ∷ esc ∷ 93 ∷ 99 ∷ esc ∷ 72 ∷ si ∷ 100 ∷ esc ∷ 73 ∷ esc ∷ 93 ∷ 101
+    ∷ so ∷ si ∷ 102 ∷ [])
+    (rows 1 ++ inverted (plain 97) ∷ flashing (cell 1 98 7 0) ∷ cell 1 99 7 0 ∷ flashing (plain 100)
+    ∷ inverted (plain 101) ∷ plain 102 ∷ []
     ++ blanks 34 ++ rows 23)
     (lately 0 102 (pen 1 7 start))
 
@@ -76,10 +80,10 @@ uprightInG1 =
 abbrev pub setsAlone : Card
 setsAlone =
     shown
-    (esc ∷ 67 ∷ esc ∷ 84 ∷ 32 ∷ esc ∷ 85 ∷ esc ∷ 72 ∷ esc ∷ 93 ∷ si ∷ 97 ∷ so ∷ 98 ∷ esc ∷ 86 ∷ si ∷ [])
+    (esc ∷ 67 ∷ esc ∷ 84 ∷ 32 ∷ esc ∷ 85 ∷ esc ∷ 72 ∷ esc ∷ 93 ∷ si ∷ 97 ∷ so ∷ 98 ∷ esc ∷ 86 ∷ si ∷ so ∷ [])
     (rows 1 ++ cell 0 32 3 4 ∷ flashing (inverted (cell 0 97 3 4)) ∷ flashing (cell 1 98 3 5) ∷ []
     ++ blanks 37 ++ rows 23)
-    (lately 1 98 (pen 1 4 (awaiting 6 (flash (those 0 3 5)))))
+    (lately 1 98 (pen 1 4 (awaiting 6 (flash (those 1 3 5)))))
 
 -- "CON (1/1) and COFF (1/4) show and hide the cursor", also where it is so already
 abbrev pub cursorShown : Card
@@ -88,36 +92,55 @@ cursorShown = shown (con ∷ con ∷ []) (rows 25) (visible (pen 1 1 start))
 abbrev pub cursorHidden : Card
 cursorHidden = shown (coff ∷ con ∷ coff ∷ coff ∷ []) (rows 25) (pen 1 1 start)
 
--- moves leave the attributes, the last character and the cursor's showing: BS twice, CR, VT, HT, LF
+-- attributes for what has no action: ink 1, ground 2 taken by a space, ground 3 waiting, flash and inverse
+abbrev pub allSet : List ℕ
+allSet = esc ∷ 65 ∷ esc ∷ 82 ∷ 32 ∷ esc ∷ 83 ∷ esc ∷ 72 ∷ esc ∷ 93 ∷ []
+
+-- CON, COFF and moves leave all attributes: BS twice, CR, VT, HT, LF
 abbrev pub movesAlone : Card
 movesAlone =
     shown
-    (con ∷ esc ∷ 65 ∷ esc ∷ 82 ∷ esc ∷ 72 ∷ esc ∷ 93 ∷ 97 ∷ bs ∷ bs ∷ cr ∷ vt ∷ ht ∷ lf ∷ [])
-    (rows 1 ++ flashing (inverted (cell 0 97 1 0)) ∷ [] ++ blanks 39 ++ rows 23)
-    (visible (lately 0 97 (pen 24 2 (awaiting 2 (flash (inverse (those 0 1 0)))))))
+    (allSet ++ con ∷ coff ∷ con ∷ 97 ∷ bs ∷ bs ∷ cr ∷ vt ∷ ht ∷ lf ∷ [])
+    (rows 1 ++ cell 0 32 1 2 ∷ flashing (inverted (cell 0 97 1 2)) ∷ [] ++ blanks 38 ++ rows 23)
+    (visible (lately 0 97 (pen 1 2 (awaiting 3 (flash (inverse (those 0 1 2)))))))
 
--- "Other ESC pairs ..: no action": columns 3, 6 and 7, 4/A to 4/F, 5/8 to 5/A, 5/E and 5/F
+-- and the set: BS, CR, LF, VT, HT twice
+abbrev pub movesInG1 : Card
+movesInG1 =
+    shown
+    (so ∷ esc ∷ 65 ∷ esc ∷ 82 ∷ 33 ∷ esc ∷ 83 ∷ esc ∷ 72 ∷ con ∷ coff ∷ bs ∷ cr ∷ lf ∷ vt ∷ ht ∷ ht ∷ [])
+    (rows 1 ++ cell 1 33 1 2 ∷ [] ++ blanks 39 ++ rows 23)
+    (lately 1 33 (pen 1 3 (awaiting 3 (flash (those 1 1 2)))))
+
+-- "Other ESC pairs ..: no action": columns 3, 6 and 7, 4/A to 4/F, 5/8 to 5/A, 5/E and 5/F, a b behind each; at the
+-- start, with attributes set, and in G1
+abbrev pub otherCodes : List ℕ
+otherCodes = codes 48 16 ++ codes 74 6 ++ codes 88 3 ++ codes 94 34
+
 abbrev pub otherPairs : Card
 otherPairs =
     shown
-    (esc ∷ 65 ∷ esc ∷ 82 ∷ 32 ∷ esc ∷ 83 ∷ esc ∷ 72 ∷ esc ∷ 93 ∷ 97 ∷ []
-    ++ pairs (codes 48 16 ++ codes 74 6 ++ codes 88 3 ++ codes 94 34)
-    ++ 98 ∷ [])
-    (rows 1 ++ cell 0 32 1 2 ∷ flashing (inverted (cell 0 97 1 2)) ∷ flashing (inverted (cell 0 98 1 2)) ∷ []
-    ++ blanks 37 ++ rows 23)
-    (lately 0 98 (pen 1 4 (awaiting 3 (flash (inverse (those 0 1 2))))))
+    (pairs otherCodes ++ allSet ++ pairs otherCodes ++ so ∷ [] ++ pairs otherCodes)
+    (rows 1 ++ replicate 59 (plain 98) ++ cell 0 32 1 2 ∷ [] ++ replicate 59 (flashing (inverted (cell 0 98 1 2)))
+    ++ replicate 59 (flashing (cell 1 98 1 3)) ++ blanks 22 ++ rows 19)
+    (lately 1 98 (pen 5 19 (flash (those 1 1 3))))
 
--- "other C0 codes: no action"
+-- "other C0 codes: no action", the same way
+abbrev pub otherC0s : List ℕ
+otherC0s = codes 1 7 ++ 16 ∷ [] ++ codes 21 4 ++ 26 ∷ 28 ∷ 29 ∷ []
+
 abbrev pub otherC0 : Card
 otherC0 =
     shown
-    (esc ∷ 65 ∷ esc ∷ 82 ∷ 32 ∷ esc ∷ 83 ∷ esc ∷ 72 ∷ esc ∷ 93 ∷ 97 ∷ []
-    ++ codes 1 7 ++ 16 ∷ [] ++ codes 21 4 ++ 26 ∷ 28 ∷ 29 ∷ 98 ∷ [])
-    (rows 1 ++ cell 0 32 1 2 ∷ flashing (inverted (cell 0 97 1 2)) ∷ flashing (inverted (cell 0 98 1 2)) ∷ []
-    ++ blanks 37 ++ rows 23)
-    (lately 0 98 (pen 1 4 (awaiting 3 (flash (inverse (those 0 1 2))))))
+    (lettered otherC0s ++ allSet ++ lettered otherC0s ++ so ∷ [] ++ lettered otherC0s)
+    (rows 1 ++ replicate 15 (plain 98) ++ cell 0 32 1 2 ∷ [] ++ replicate 15 (flashing (inverted (cell 0 98 1 2)))
+    ++ replicate 15 (flashing (cell 1 98 1 3)) ++ blanks 34 ++ rows 22)
+    (lately 1 98 (pen 2 7 (flash (those 1 1 3))))
+
+abbrev pub colourCards : List Card
+colourCards = fresh ∷ eachInk ∷ eachGroundInG0 ∷ eachGroundInG1 ∷ noTaker ∷ []
 
 abbrev pub attributeCards : List Card
 attributeCards =
-    fresh ∷ eachInk ∷ eachGroundInG0 ∷ eachGroundInG1 ∷ noTaker ∷ flashAndInverse ∷ uprightInG1 ∷ setsAlone
-    ∷ cursorShown ∷ cursorHidden ∷ movesAlone ∷ otherPairs ∷ otherC0 ∷ []
+    flashAndInverse ∷ uprightInG1 ∷ setsAlone ∷ cursorShown ∷ cursorHidden ∷ movesAlone ∷ movesInG1 ∷ otherPairs
+    ∷ otherC0 ∷ []

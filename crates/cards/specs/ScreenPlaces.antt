@@ -1,7 +1,7 @@
 -- Our own cards of the screen (01, "Screen cells"): moves at every edge, row 0, FF, RS and US. Letters are a (97) to h
 -- (104); the rows and columns that US names are codes from 64 on. Assumes nothing.
 use mathlib.Core.List.{List, [], _∷_, _++_}
-use Rattle.cards.specs.Drawn.{bs, ht, lf, vt, ff, cr, so, con, esc, rs, us}
+use Rattle.cards.specs.Drawn.{bs, ht, lf, vt, ff, cr, so, si, con, coff, rep, ss2, esc, rs, us}
 use Rattle.cards.specs.Drawn.{cell, flashing, inverted, plain, blanks, rows}
 use Rattle.cards.specs.Drawn.{those, start, awaiting, flash, inverse}
 use Rattle.cards.specs.Drawn.{pen, keeping, lately, visible}
@@ -16,13 +16,16 @@ left =
     (us ∷ 65 ∷ 65 ∷ bs ∷ 97
     ∷ us ∷ 66 ∷ 65 ∷ bs ∷ 98
     ∷ us ∷ 88 ∷ 104 ∷ bs ∷ 99
+    ∷ us ∷ 67 ∷ 66 ∷ bs ∷ 102
     ∷ us ∷ 64 ∷ 65 ∷ bs ∷ 100
     ∷ us ∷ 64 ∷ 104 ∷ bs ∷ 101 ∷ [])
     (plain 100 ∷ [] ++ blanks 37 ++ plain 101 ∷ [] ++ blanks 1
     ++ blanks 39 ++ plain 98 ∷ []
-    ++ rows 22
+    ++ rows 1
+    ++ plain 102 ∷ [] ++ blanks 39
+    ++ rows 20
     ++ blanks 38 ++ plain 99 ∷ plain 97 ∷ [])
-    (keeping 24 40 start (lately 0 101 (pen 0 40 start)))
+    (keeping 3 2 start (lately 0 101 (pen 0 40 start)))
 
 -- HT: "right of column 40 is column 1 of the row below"; a character does the same. "Row 0: .. HT at column 40 .. do
 -- nothing; a character in column 40 leaves the cursor there"
@@ -92,15 +95,16 @@ first =
 abbrev pub back : Card
 back =
     shown
-    (us ∷ 69 ∷ 73 ∷ so ∷ esc ∷ 66 ∷ esc ∷ 72 ∷ esc ∷ 81 ∷ 33 ∷ esc ∷ 86
+    (con ∷ us ∷ 69 ∷ 73 ∷ so ∷ esc ∷ 66 ∷ esc ∷ 72 ∷ esc ∷ 81 ∷ 33 ∷ esc ∷ 86
     ∷ us ∷ 64 ∷ 67 ∷ 97 ∷ esc ∷ 65
     ∷ us ∷ 64 ∷ 80 ∷ 98 ∷ esc ∷ 67 ∷ esc ∷ 85
-    ∷ lf ∷ 97 ∷ [])
+    ∷ lf ∷ [])
     (blanks 2 ++ plain 97 ∷ [] ++ blanks 12 ++ plain 98 ∷ [] ++ blanks 24
     ++ rows 4
-    ++ blanks 8 ++ flashing (cell 1 33 2 1) ∷ flashing (cell 1 97 2 6) ∷ [] ++ blanks 30
+    ++ blanks 8 ++ flashing (cell 1 33 2 1) ∷ [] ++ blanks 31
     ++ rows 19)
-    (keeping 5 10 (awaiting 6 (flash (those 1 2 1))) (lately 1 97 (pen 5 11 (flash (those 1 2 6)))))
+    (visible (keeping 5 10 (awaiting 6 (flash (those 1 2 1))) (lately 0 98
+    (pen 5 10 (awaiting 6 (flash (those 1 2 1)))))))
 
 -- the same from G0 with inverse, twice; RS leaves row 0, and nothing of what was held
 abbrev pub backTwice : Card
@@ -124,6 +128,17 @@ backToTheLast =
     ∷ us ∷ 64 ∷ 66 ∷ lf ∷ 97 ∷ [])
     (rows 3 ++ blanks 6 ++ cell 0 97 1 0 ∷ [] ++ blanks 33 ++ rows 21)
     (keeping 3 7 (those 0 1 0) (lately 0 97 (pen 3 8 (those 0 1 0))))
+
+-- nothing but such a US changes what is held: not moves, sets, CON, COFF, pairs, characters, a bad US, RS or FF
+abbrev pub heldOn : Card
+heldOn =
+    shown
+    (us ∷ 67 ∷ 69 ∷ esc ∷ 66 ∷ esc ∷ 93
+    ∷ us ∷ 64 ∷ 65 ∷ bs ∷ ht ∷ vt ∷ cr ∷ con ∷ 97
+    ∷ us ∷ 68 ∷ 70 ∷ bs ∷ ht ∷ vt ∷ lf ∷ cr ∷ coff ∷ con ∷ so ∷ si ∷ esc ∷ 65 ∷ 98 ∷ rep ∷ 65 ∷ ss2 ∷ 33
+    ∷ us ∷ 63 ∷ 65 ∷ us ∷ 89 ∷ 65 ∷ us ∷ 65 ∷ 64 ∷ us ∷ 65 ∷ 105 ∷ rs ∷ ff ∷ [])
+    (plain 97 ∷ [] ++ blanks 39 ++ rows 24)
+    (visible (keeping 3 5 (inverse (those 0 2 0)) (lately 2 33 (pen 1 1 start))))
 
 -- row 0 entered first of all: back to "row 1, column 1 and start attributes"
 abbrev pub backToTheStart : Card
@@ -202,15 +217,19 @@ badUs =
     ++ rows 19)
     (visible (lately 0 103 (pen 5 17 (awaiting 1 (flash (inverse (those 0 2 4)))))))
 
--- W14 in G1, behind a letter, with an ink and a waiting ground
+-- W14 and its like in G1, behind a letter, with an ink and a waiting ground
 abbrev pub badUsInG1 : Card
 badUsInG1 =
     shown
-    (so ∷ esc ∷ 65 ∷ 97 ∷ esc ∷ 82 ∷ us ∷ 65 ∷ 105 ∷ [])
+    (so ∷ esc ∷ 65 ∷ 97 ∷ esc ∷ 82 ∷ us ∷ 63 ∷ 65 ∷ us ∷ 89 ∷ 65 ∷ us ∷ 65 ∷ 64 ∷ us ∷ 65 ∷ 105 ∷ [])
     (rows 1 ++ cell 1 97 1 0 ∷ [] ++ blanks 39 ++ rows 23)
     (lately 1 97 (pen 1 2 (awaiting 2 (those 1 1 0))))
 
+abbrev pub moveCards : List Card
+moveCards = left ∷ right ∷ up ∷ down ∷ first ∷ []
+
+abbrev pub row0Cards : List Card
+row0Cards = back ∷ backTwice ∷ backToTheLast ∷ heldOn ∷ backToTheStart ∷ []
+
 abbrev pub placeCards : List Card
-placeCards =
-    left ∷ right ∷ up ∷ down ∷ first ∷ back ∷ backTwice ∷ backToTheLast ∷ backToTheStart ∷ cleared ∷ clearedInverse
-    ∷ home ∷ goodUs ∷ badUs ∷ badUsInG1 ∷ []
+placeCards = cleared ∷ clearedInverse ∷ home ∷ goodUs ∷ badUs ∷ badUsInG1 ∷ []

@@ -84,9 +84,9 @@ secondInG1 =
 abbrev pub escColumn2 : Card
 escColumn2 =
     shown
-    (esc ∷ 32 ∷ 47 ∷ 127 ∷ 48 ∷ 97 ∷ esc ∷ 47 ∷ 126 ∷ 98 ∷ esc ∷ 40 ∷ 65 ∷ 99 ∷ [])
-    (rows 1 ++ plain 97 ∷ plain 98 ∷ plain 99 ∷ [] ++ blanks 37 ++ rows 23)
-    (lately 0 99 (pen 1 4 start))
+    (esc ∷ 32 ∷ 47 ∷ 127 ∷ 48 ∷ 97 ∷ esc ∷ 47 ∷ 126 ∷ 98 ∷ esc ∷ 40 ∷ 65 ∷ 99 ∷ esc ∷ 37 ∷ 64 ∷ 100 ∷ [])
+    (rows 1 ++ plain 97 ∷ plain 98 ∷ plain 99 ∷ plain 100 ∷ [] ++ blanks 36 ++ rows 23)
+    (lately 0 100 (pen 1 5 start))
 
 -- "ESC 5/B: dropped up to a code of 4/0 to 7/E"; columns 2 and 3 and 7/F do not end it
 abbrev pub esc5B : Card
@@ -155,7 +155,8 @@ openCards =
     ∷ leftOpen (us ∷ 69 ∷ nul ∷ []) (Row 69)
     ∷ []
 
+abbrev pub repeatCards : List Card
+repeatCards = again ∷ againOnGround ∷ againOfNone ∷ againOverTheEdge ∷ againInTheCorners ∷ []
+
 abbrev pub sequenceCards : List Card
-sequenceCards =
-    again ∷ againOnGround ∷ againOfNone ∷ againOverTheEdge ∷ againInTheCorners ∷ second ∷ secondInG1 ∷ escColumn2
-    ∷ esc5B ∷ separated ∷ skipped ∷ cutShort ∷ openCards
+sequenceCards = second ∷ secondInG1 ∷ escColumn2 ∷ esc5B ∷ separated ∷ skipped ∷ cutShort ∷ []
