@@ -43,9 +43,9 @@ on-the-line = ((refl, refl, refl), ((refl, refl, refl), ((refl, refl, refl), tt)
 on-the-screen : EachHolds screenCards
 unfolding firstLarge cleared goodCharacter allGood goodSpot penInRange gone obeyed
     freshScreen written writtenTimes applied advanced advancedBy inRange broken ran
-on-the-screen = ((refl, refl, refl), ((refl, refl, refl), ((refl, refl, refl), tt)))
+on-the-screen = (refl, (refl, (refl, tt)))
 
-each-append : (cs ds : List Card) → EachHolds cs → EachHolds ds → EachHolds (cs ++ ds)
+pub each-append : (cs ds : List Card) → EachHolds cs → EachHolds ds → EachHolds (cs ++ ds)
 each-append [] ds p q = q
 each-append (c ∷ cs) ds p q = (p .0, each-append cs ds (p .1) q)
 

@@ -1,6 +1,5 @@
 -- The bench cards (01, "The bench cards"), as one list and one statement over it. Assumes nothing.
 use mathlib.Core.Path.{_≡_}
-use mathlib.Core.Bool.{false}
 use mathlib.Core.List.{List, [], _∷_, _++_, map}
 use Prim.Native.Nat.{ℕ}
 use lib.ListN.{replicate}
@@ -14,22 +13,21 @@ use Rattle.receiver.specs.declared.Judged.the-variants.{Block}
 use Rattle.receiver.specs.States.{newReceiver}
 use Rattle.receiver.specs.Runs.{Event, byte, on, run, Sent, sent}
 use Rattle.receiver.specs.Page.{nothing}
-use Rattle.cursor.specs.declared.Place.{Place}
-use Rattle.cursor.specs.Places.{at}
 use Rattle.cells.specs.declared.Cell.{Cell}
-use Rattle.cells.specs.Characters.{blankOf}
+use Rattle.pen.specs.declared.Pen.{Pen}
 use Rattle.page.specs.Pages.{freshScreen}
 use Rattle.answers.specs.declared.Answer.the-variants.{Taken}
-use Rattle.screen.specs.Calls.{ran}
+use Rattle.screen.specs.Calls.{runsTo, ran}
+use Rattle.cards.specs.Drawn.{ff, rep, us, plain, blanks, rows, start, pen, lately}
 
--- values and the block made of them; or a block that arrives, its verdict, the block left and what is handed back; or
--- what happens to a new receiver, what goes out at each event, and the phase and number behind them; or values that a
--- fresh screen takes, all its cells then, and its cursor
+-- values and what the maker leaves of them; or a block that arrives, its verdict, the block left and what is handed
+-- back; or what happens to a new receiver, what goes out at each event, and the phase and number behind them; or values
+-- that a fresh screen takes, and the whole screen behind them: all its cells, and its pen
 pub data Card : Type 0 where
   made : List ℕ → List ℕ → Card
   judged : List ℕ → Verdict → List ℕ → List ℕ → Card
   heard : List Event → List Sent → Phase → ℕ → Card
-  shown : List ℕ → List Cell → Place → Card
+  shown : List ℕ → List Cell → Pen → Card
 
 -- what the maker is lent: one byte more than it may write, and none of them what it writes
 abbrev pub lent : List ℕ
@@ -40,9 +38,7 @@ Holds (made vs B) = (makeNumber vs lent ≡ 0) × (makeLeft vs lent ≡ B ++ (25
 Holds (judged B v C h) = (verdict B ≡ v) × (left B ≡ C) × (handed B ≡ h)
 Holds (heard es os p x) =
     (sent newReceiver es ≡ os) × (run newReceiver es .phase ≡ p) × (run newReceiver es .number ≡ x)
-Holds (shown vs cs x) =
-    (ran freshScreen vs .answer ≡ Taken) × (ran freshScreen vs .screen .cells ≡ cs)
-    × (ran freshScreen vs .screen .pen .place ≡ x)
+Holds (shown vs cs p) = ran freshScreen vs ≡ runsTo (record { cells = cs; pen = p }) Taken
 
 abbrev pub EachHolds : List Card → Type 0
 EachHolds [] = Unit {0}
@@ -107,19 +103,13 @@ lineCards =
     ∷ heard (w9 ++ map byte (150 ∷ 150 ∷ 65 ∷ [])) (asked9 ++ quiet 3) (Waiting 0) 0
     ∷ []
 
--- so many blank cells; and A in G0 with start attributes
-abbrev pub blanks : ℕ → List Cell
-blanks n = replicate n blankOf
-
-abbrev pub letterA : Cell
-letterA = record { set = 0; code = 65; ink = 7; ground = 0; flash = false; inverse = false }
-
 -- W12 FF, A, REP, J; W13 US 5/8 6/8, A; W14 US 4/1 6/9. Row 0 is the first forty cells, row 1 the next
 abbrev pub screenCards : List Card
 screenCards =
-    shown (12 ∷ 65 ∷ 18 ∷ 74 ∷ []) (blanks 40 ++ (replicate 11 letterA ++ blanks 949)) (at 1 12)
-    ∷ shown (31 ∷ 88 ∷ 104 ∷ 65 ∷ []) (blanks 999 ++ (letterA ∷ [])) (at 1 1)
-    ∷ shown (31 ∷ 65 ∷ 105 ∷ []) (blanks 1000) (at 1 1)
+    shown (ff ∷ 65 ∷ rep ∷ 74 ∷ []) (rows 1 ++ replicate 11 (plain 65) ++ blanks 29 ++ rows 23)
+    (lately 0 65 (pen 1 12 start))
+    ∷ shown (us ∷ 88 ∷ 104 ∷ 65 ∷ []) (rows 24 ++ blanks 39 ++ plain 65 ∷ []) (lately 0 65 (pen 1 1 start))
+    ∷ shown (us ∷ 65 ∷ 105 ∷ []) (rows 25) (pen 1 1 start)
     ∷ []
 
 abbrev pub cards : List Card

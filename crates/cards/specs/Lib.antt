@@ -1,1 +1,6 @@
+pub mod Drawn
 pub mod Cards
+pub mod ScreenAttributes
+pub mod ScreenPlaces
+pub mod ScreenSequences
+pub mod ScreenCards

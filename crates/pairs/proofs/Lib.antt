@@ -1,3 +1,4 @@
+pub mod Cases
 pub mod Stays
 pub mod Grounds
 pub mod Mosaics

@@ -19,7 +19,7 @@ four-in : {a : Attributes} (n : ℕ) → InForce a → InForce (columnFour a n)
 four-in {a} n h =
     chosen InForce (ltb n 8)
     (λ e. record { set = h .set; ink = omega (arith, ltb-true n 8 e); ground = h .ground; waiting = h .waiting })
-    (λ e. chosen InForce (eqb n 8) (λ f. plain true (a .inverse) h)
+    (λ e. chosen InForce (eqb n 8) (λ f. plain _ (a .inverse) h)
     (λ f. chosen InForce (eqb n 9) (λ g. plain _ (a .inverse) h) (λ g. h)))
 
 five-in : {a : Attributes} (n : ℕ) → InForce a → InForce (columnFive a n)
@@ -28,7 +28,7 @@ five-in {a} n h =
     (λ e. record { set = h .set; ink = h .ink; ground = h .ground; waiting = omega (arith, ltb-true n 8 e) })
     (λ e. chosen InForce (eqb n 12) (λ f. plain (a .flash) _ h)
     (λ f. chosen InForce (eqb n 13)
-    (λ g. chosen InForce (eqb (a .set) 1) (λ k. h) (λ k. plain (a .flash) true h)) (λ g. h)))
+    (λ g. chosen InForce (eqb (a .set) 1) (λ k. h) (λ k. plain (a .flash) _ h)) (λ g. h)))
 
 pub pair-in : {a : Attributes} (c : ℕ) → InForce a → InForce (paired a c)
 pair-in c h =

@@ -18,7 +18,7 @@ abbrev Inv-loop : tie.InvT-loop
 Inv-loop old cells₀ i₀ cells i = (i ≤ 40) × (cells ≡ take i (old) ++ drop i (replicate 1000 blankOf))
 
 abbrev μ-loop : tie.MeasureT-loop
-μ-loop old cells₀ i₀ cells i = 40 - i
+μ-loop old cells₀ i₀ cells i = 1000 - i
 
 blank-requires : tie.Need-blank-requires Inv-loop μ-loop
 blank-requires c κs = search needs
@@ -52,7 +52,7 @@ loop-again c =
     let n : length s ≡ 1000 = search (length-mapped, l .before .before .good .0) in
     let h : i < length s = omega arith in
     let k : i < length (replicate 1000 blankOf) = omega arith in (
-      search needs,
+      omega arith,
       ap (λ (cs : List Cell). set cs i (getD s i noCell)) (l .loop .inv .1)
           ∙ put s (replicate 1000 blankOf) i noCell h k,
     )

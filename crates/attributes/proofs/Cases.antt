@@ -1,0 +1,34 @@
+-- The attributes at the start, and what SO and SI make of others, written out (01, "Screen cells"). Assumes nothing.
+use mathlib.Core.Path.{_≡_, refl}
+use mathlib.Core.Bool.{true, false}
+use mathlib.Core.List.{List, [], _∷_}
+use Rattle.attributes.specs.declared.Waiting.the-variants.{Nothing, Ground}
+use Rattle.attributes.specs.declared.Attributes.{Attributes}
+use Rattle.attributes.specs.Attributing.{attributes, startOf, shiftedOut, shiftedIn}
+
+-- "Current attributes at the start: set G0, ink 7, ground 0, none waiting, no flash, not inverse"
+pub start-is : (startOf .set ≡ 0) × (startOf .ink ≡ 7) × (startOf .ground ≡ 0) × (startOf .waiting ≡ Nothing)
+    × (startOf .flash ≡ false) × (startOf .inverse ≡ false)
+start-is = (refl, refl, refl, refl, refl, refl)
+
+-- each of the attributes becomes those beside it
+abbrev Become : (Attributes → Attributes) → List (Attributes × Attributes) → Type 0
+Become f [] = Unit {0}
+Become f (e ∷ es) = (f (e .0) ≡ e .1) × Become f es
+
+-- "SO: set G1, inverse off"; the others stay
+abbrev outs : List (Attributes × Attributes)
+outs =
+    (attributes 0 3 4 (Ground 5) true true, attributes 1 3 4 (Ground 5) true false)
+    ∷ (attributes 1 2 6 Nothing false false, attributes 1 2 6 Nothing false false)
+    ∷ []
+
+-- "SI: set G0"; the others stay
+abbrev ins : List (Attributes × Attributes)
+ins =
+    (attributes 1 3 4 (Ground 5) true false, attributes 0 3 4 (Ground 5) true false)
+    ∷ (attributes 0 2 6 Nothing false true, attributes 0 2 6 Nothing false true)
+    ∷ []
+
+pub shifts-are : Become shiftedOut outs × Become shiftedIn ins
+shifts-are = ((refl, (refl, tt)), (refl, (refl, tt)))
