@@ -1,3 +1,4 @@
 pub mod Ranges
 pub mod Parts
+pub mod Shown
 pub mod Refusals
