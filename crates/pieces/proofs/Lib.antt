@@ -1,3 +1,4 @@
 pub mod SoFar
 pub mod Single
 pub mod Numbered
+pub mod Cut
