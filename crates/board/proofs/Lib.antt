@@ -1,4 +1,5 @@
 pub mod Ranges
 pub mod Parts
+pub mod Linked
 pub mod Shown
 pub mod Refusals

@@ -1,5 +1,6 @@
 -- The page shown is the page sent: from the line through receiver and links to the screen. Assumes nothing.
-use mathlib.Core.Path.{_≡_, refl, sym, ap, _∙_, subst⁻¹}
+use mathlib.Core.Path.{_≡_, refl, sym, ap, _∙_, subst, subst⁻¹}
+use mathlib.Core.Bool.{true}
 use mathlib.Core.List.{List, [], _∷_, _++_, map, map-append}
 use Prim.Native.Nat.{ℕ, zero, suc, _-_, _*_}
 use native.Mathlib.Omega.{arith}
@@ -7,8 +8,9 @@ use lib.ListN.{length, replicate}
 use Rattle.values.specs.Large.{Values}
 use Rattle.values.proofs.Found.{values-none, values-cons, values-append}
 use Rattle.wiring.specs.declared.Module.the-variants.{Screen, Modem}
+use Rattle.wiring.specs.Tables.{reaches}
 use Rattle.hearing.specs.declared.Unfinished.the-variants.{Free}
-use Rattle.hearing.specs.Phrases.{Phrase, alone, AllProper, allFlowing, Phrased}
+use Rattle.hearing.specs.Phrases.{Phrase, AllProper, allValues, allFlowing, Phrased}
 use Rattle.receiver.specs.declared.Receiver.{Receiver}
 use Rattle.receiver.specs.Runs.{Event as Heard, byte, on, obey as receiverObey, sentBy, sent, allPassed, allAsked}
 use Rattle.receiver.specs.Line.{blocksFor, madeOf, filled, joined, Sending, through}
@@ -18,15 +20,15 @@ use Rattle.links.specs.declared.Links.{Links}
 use Rattle.links.specs.States.{unfinished}
 use Rattle.links.specs.Runs.{Call, value, obey as linksObey, given, gotFrom, Throughout, Says}
 use Rattle.links.proofs.Own.{can-say}
-use Rattle.links.proofs.Through.{comes-through, stays-linked}
+use Rattle.links.proofs.Through.{comes-through}
 use Rattle.feeding.specs.Feeding.{fromLine, got}
 use Rattle.answers.specs.declared.Answer.the-variants.{Taken}
 use Rattle.screen.specs.Calls.{ran}
 use Rattle.board.specs.declared.Board.{Board}
-use Rattle.board.specs.Boards.{freshBoard}
 use Rattle.board.specs.Runs.{Event, front, run, requests, heardIn, callsIn, InBoard}
-use Rattle.board.proofs.Ranges.{fresh-in}
+use Rattle.board.specs.Pages.{NoCommand}
 use Rattle.board.proofs.Parts.{apart}
+use Rattle.board.proofs.Linked.{stays-linked}
 
 -- ---- what receiver and links are told, where nothing but the line is heard
 
@@ -98,28 +100,13 @@ page-shown vs bs qs h s b i free p linked =
     let e = sending (b .receiver) (i .receiver) vs bs qs h s in
     shows b i free (on ∷ map byte bs) (filled vs) qs (e .0) (e .1) (filled-small vs h) p linked
 
--- ---- such lines and boards: values in which no ESC stands, a line that hits nothing, and a fresh board
+-- ---- such lines and boards: a page without commands, a line that hits nothing, a board whose modem is linked
 
-proper-append : (ps rs : List Phrase) → AllProper ps → AllProper rs → AllProper (ps ++ rs)
-proper-append [] rs p r = r
-proper-append (x ∷ ps) rs p r = (p .0, proper-append ps rs (p .1) r)
-
-zeros-alone : (n : ℕ) → AllProper (map alone (replicate n 0))
-zeros-alone zero = tt
-zeros-alone (suc n) = (λ e. omega (arith, e), zeros-alone n)
-
-filled-alone : (vs : List ℕ) → AllProper (map alone vs) → AllProper (map alone (filled vs))
-filled-alone vs p =
-    let n = 15 * blocksFor vs - length vs in
-    subst⁻¹ AllProper (map-append alone vs (replicate n 0))
-    (proper-append (map alone vs) (map alone (replicate n 0)) p (zeros-alone n))
-
-pub page-met : (vs : List ℕ) → Values vs → AllProper (map alone vs)
-    → Sending 0 (madeOf vs) (joined (madeOf vs)) [] × InBoard freshBoard
-    × (unfinished (freshBoard .links) modem ≡ Free) × Throughout Modem Screen (freshBoard .links) (fromLine (filled vs))
-page-met vs h p = (
+pub page-met : (vs : List ℕ) (ps : List Phrase) → Values vs → filled vs ≡ allValues ps → AllProper ps → NoCommand ps
+    → (b : Board) → InBoard b → unfinished (b .links) modem ≡ Free → reaches (b .links .table) Modem Screen ≡ true
+    → Sending 0 (madeOf vs) (joined (madeOf vs)) [] × Throughout Modem Screen (b .links) (fromLine (filled vs))
+page-met vs ps h e p n b i free y = (
   through (unhit (madeOf vs)),
-  fresh-in,
-  refl,
-  stays-linked (filled vs) (filled-small vs h) (filled-alone vs p),
+  subst⁻¹ (λ (us : List ℕ). Throughout Modem Screen (b .links) (fromLine us)) e
+      (stays-linked Screen ps (b .links) (i .links) free y p n (subst Values e (filled-small vs h))),
 )
