@@ -3,28 +3,89 @@
 // crates/pieces/specs/Pieces.antt, and each is proved in the crate whose words it speaks.
 ghost use mathlib.Core.Path.{_≡_};
 ghost use mathlib.Core.Bool.{true, false};
-ghost use mathlib.Core.List.{List, _++_};
+ghost use mathlib.Core.List.{List, [], _∷_, _++_, map};
 ghost use Prim.Native.Nat.{ℕ, _≤_};
-ghost use lib.ListN.{length};
+ghost use lib.ListN.{length, replicate};
+ghost use Rattle.values.specs.Large.{Values};
 ghost use Rattle.wiring.specs.declared.Module.{Module};
+ghost use Rattle.wiring.specs.declared.Module.the-variants.{Screen, Modem};
+ghost use Rattle.wiring.specs.Tables.{reaches};
+ghost use Rattle.replies.specs.Replies.{statusesOf};
+ghost use Rattle.hearing.specs.declared.Unfinished.the-variants.{Free};
+ghost use Rattle.hearing.specs.Phrases.{Phrase, AllProper, allValues, allFlowing, Phrased};
+ghost use Rattle.phases.specs.declared.Phase.the-variants.{Off};
+ghost use Rattle.receiver.specs.Runs.{byte, on};
+ghost use Rattle.receiver.specs.Line.{madeOf, filled, joined, Sending};
+ghost use Rattle.ears.specs.declared.Ear.{Ear};
+ghost use Rattle.ears.specs.declared.Ear.the-variants.{Modem as modem};
 ghost use Rattle.links.specs.declared.Links.{Links};
+ghost use Rattle.links.specs.States.{unfinished};
+ghost use Rattle.links.specs.Runs.{Throughout};
+ghost use Rattle.answers.specs.declared.Answer.the-variants.{Taken as TakenByScreen};
+ghost use Rattle.screen.specs.Calls.{ran};
 ghost use Rattle.links.specs.declared.Answer.the-variants.{TooLarge, Broken};
 ghost use Rattle.links.specs.Calls.{told};
-ghost use Rattle.feeding.specs.Feeding.{fed, Enough};
+ghost use Rattle.feeding.specs.Feeding.{fromLine, fed, Enough};
 ghost use Rattle.board.specs.declared.Board.{Board};
 ghost use Rattle.board.specs.Boards.{freshBoard, inRange};
-ghost use Rattle.board.specs.Calls.{refused};
-ghost use Rattle.board.specs.Runs.{Event, obey, run, handedTo, requests, heardIn, callsIn, Goes, InBoard, tooLarge};
+ghost use Rattle.board.specs.Calls.{refused, switchedOn};
+ghost use Rattle.board.specs.Pages.{NoCommand};
+ghost use Rattle.board.specs.Runs.{Event, front, obey, run, handedTo, requests, heardIn, callsIn, Goes, InBoard, tooLarge};
 ghost use Rattle.board.specs.Runs.{callTold};
 ghost use Rattle.front.specs.declared.Room.{Room};
 ghost use Rattle.pieces.specs.Pieces.{told as pieceTold, linesOf, linesTold, isTaken, singly, handed, asked};
+ghost use Rattle.pieces.specs.Cuts.{secondTaken, InTwo};
+ghost use Rattle.board_demands.specs.Example.{arrived, wanted, shown};
 
 // In every run of a board in range each part goes its own way: the receiver hears the line bytes, switchings and
 // askings alone, the links are told the values that it passes on and those of keyboard, socket and host, in order, the
-// screen takes what the links send it; what each call hands out is what the parts hand out.
+// screen takes what the links send it, refusing nothing; what each call hands out is what the parts hand out.
 pub fn each_part_goes_its_own_way()
     ensures { λ _. ⌜ ((b : Board) → InBoard b → (es : List Event)
         → Goes b (run b es) (heardIn es) (callsIn (b .receiver) es) (λ m. handedTo m b es) (requests b es)) ⌝ }
+{}
+
+// The page shown is the page sent. Values are made into blocks and arrive as `Sending` allows, hit, resent and all; a
+// board in range, with nothing unfinished from the modem, is switched on and hears them; and the modem is linked to the
+// screen at each of the values, filled up with NUL. Then the screen shows what its own run over these shows, with the
+// commands taken out, and it takes them all; and what the board asked is what the sender was asked for. The same holds
+// where the bytes are handed in as one piece, with room enough. (Any values are phrases, and then the beginning of one:
+// theorem `all_but_the_commands_comes_through`.) Such lines and boards exist: a page without commands, on any line that
+// hits nothing, and any such board whose modem is linked to the screen when it begins, as a fresh one is; and one page
+// in bytes, with a block resent.
+pub fn the_page_shown_is_the_page_sent()
+    ensures { λ _. ⌜ ((vs bs qs : List ℕ) → Values vs → Sending 0 (madeOf vs) bs qs
+        → (b : Board) → InBoard b → unfinished (b .links) modem ≡ Free
+        → (p : Phrased (filled vs)) → Throughout Modem Screen (b .links) (fromLine (filled vs))
+        → (run b (map front (on ∷ map byte bs)) .screen ≡ ran (b .screen) (allFlowing (p .phrases)) .screen)
+        × (ran (b .screen) (allFlowing (p .phrases)) .answer ≡ TakenByScreen)
+        × (requests b (map front (on ∷ map byte bs)) ≡ qs)) ⌝ }
+    ensures piece { λ _. ⌜ ((vs bs qs : List ℕ) → Values vs → Sending 0 (madeOf vs) bs qs
+        → (b : Board) → InBoard b → unfinished (b .links) modem ≡ Free
+        → (p : Phrased (filled vs)) → Throughout Modem Screen (b .links) (fromLine (filled vs))
+        → (r : Room) → let c = switchedOn b .next in isTaken c bs r ≡ true
+        → (linesOf c bs r .next .screen ≡ ran (b .screen) (allFlowing (p .phrases)) .screen) × (asked c bs ≡ qs)) ⌝ }
+    ensures met { λ _. ⌜ ((vs : List ℕ) (ps : List Phrase) → Values vs → filled vs ≡ allValues ps
+        → AllProper ps → NoCommand ps → (b : Board) → InBoard b → unfinished (b .links) modem ≡ Free
+        → reaches (b .links .table) Modem Screen ≡ true
+        → Sending 0 (madeOf vs) (joined (madeOf vs)) [] × Throughout Modem Screen (b .links) (fromLine (filled vs))) ⌝ }
+    ensures example { λ _. ⌜ (run freshBoard (map front (on ∷ map byte arrived)) .screen .cells ≡ shown)
+        × (requests freshBoard (map front (on ∷ map byte arrived)) ≡ wanted) ⌝ }
+{}
+
+// A fresh board: the receiver off, number 0, nothing held; the local table, told by the statuses of screen, keyboard,
+// modem and socket, and nothing unfinished from modem or socket; 1,000 blank cells, and the cursor at row 1, column 1,
+// hidden. So its modem is linked to the screen.
+pub fn a_fresh_board_is_off_local_and_blank()
+    ensures off { λ _. ⌜ (freshBoard .receiver .phase ≡ Off) × (freshBoard .receiver .number ≡ 0)
+        × (freshBoard .receiver .count ≡ 0) ⌝ }
+    ensures local { λ _. ⌜ (statusesOf (freshBoard .links .table) ≡ 77 ∷ 66 ∷ 70 ∷ 74 ∷ [])
+        × ((e : Ear) → unfinished (freshBoard .links) e ≡ Free)
+        × (reaches (freshBoard .links .table) Modem Screen ≡ true) ⌝ }
+    ensures blank { λ _. ⌜ (freshBoard .screen .cells
+        ≡ replicate 1000 (record { set = 1; code = 32; ink = 7; ground = 0; flash = false; inverse = false }))
+        × (freshBoard .screen .pen .place .row ≡ 1) × (freshBoard .screen .pen .place .column ≡ 1)
+        × (freshBoard .screen .pen .shown ≡ false) ⌝ }
 {}
 
 // A fresh board is in range, and from a board in range every run stays there. The test that the calls make says exactly
@@ -55,8 +116,15 @@ pub fn a_piece_gives_its_number()
         → linesOf b xs r .next ≡ b) ⌝ }
 {}
 
-// However a piece is cut in two, the board after it and all that is handed out are the same.
+// However a piece is cut in two, two calls come to what one comes to, the second being lent what stands behind what the
+// first wrote: where there is room for the whole there is room for each part, all answer 0, the board after it is the
+// same, the counts add up and every output is the same, every byte; and where both parts are taken, so is the whole.
+// Single calls, in whatever state, come to the same as well.
 pub fn a_cut_changes_nothing()
+    ensures { λ _. ⌜ ((b : Board) → InBoard b → (xs ys : List ℕ) (r : Room) → isTaken b (xs ++ ys) r ≡ true
+        → InTwo b xs ys r) ⌝ }
+    ensures whole { λ _. ⌜ ((b : Board) → InBoard b → (xs ys : List ℕ) (r : Room) → isTaken b xs r ≡ true
+        → secondTaken b xs ys r ≡ true → isTaken b (xs ++ ys) r ≡ true) ⌝ }
     ensures board { λ _. ⌜ ((b : Board) (xs ys : List ℕ)
         → run b (singly (xs ++ ys)) ≡ run (run b (singly xs)) (singly ys)) ⌝ }
     ensures handed { λ _. ⌜ ((m : Module) (b : Board) (xs ys : List ℕ)
