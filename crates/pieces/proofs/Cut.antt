@@ -1,45 +1,25 @@
 -- A piece cut in two: what the two calls come to is what the one comes to. Assumes nothing.
-use mathlib.Core.Path.{_≡_, refl, sym, ap, ap₂, _∙_}
-use mathlib.Core.Bool.{Bool, true, cond, _&&_}
-use mathlib.Core.List.{List, [], _∷_, _++_, append-assoc}
+use mathlib.Core.Path.{_≡_, sym, ap, ap₂, _∙_}
+use mathlib.Core.Bool.{Bool, true}
+use mathlib.Core.List.{List, _++_, append-assoc}
 use Prim.Native.Nat.{ℕ, _+_, _-_}
 use native.Mathlib.Omega.{arith}
 use lib.ListN.{length, take, drop, length-append}
 use lib.Seq.{take-append-seam, drop-append-seam, drop-drop}
-use Rattle.laws.proofs.Computed.{and-left, and-right, holds, is-true}
 use Rattle.wiring.specs.declared.Module.{Module}
 use Rattle.wiring.specs.declared.Module.the-variants.{Screen, Keyboard, Modem, Socket}
 use Rattle.front.specs.declared.Room.{Room}
-use Rattle.front.specs.Fitting.{roomIn, within}
-use Rattle.front.proofs.Rooms.{Fits, tested as fits-tested, passes}
 use Rattle.board.specs.declared.Board.{Board}
-use Rattle.board.specs.Boards.{inRange}
 use Rattle.board.specs.Runs.{run, Outside, InBoard}
 use Rattle.board.proofs.Ranges.{tested}
 use Rattle.board.proofs.Parts.{apart}
-use Rattle.pieces.specs.declared.Answer.the-variants.{Taken, NoRoom, Broken}
+use Rattle.pieces.specs.declared.Answer.the-variants.{Taken}
 use Rattle.pieces.specs.declared.Passage.{Passage}
-use Rattle.pieces.specs.Pieces.{singly, handed, asked, yields, passage, refused, linesOf, isTaken, leftIn}
-use Rattle.pieces.specs.Cuts.{wrote, behindIt, secondOf, secondTaken, behindFirst, InTwo}
+use Rattle.pieces.specs.Pieces.{singly, handed, asked, yields, passage, linesOf, isTaken, leftIn}
+use Rattle.pieces.specs.Claims.{wrote, RoomFor}
+use Rattle.pieces.specs.Cuts.{behindIt, secondOf, secondTaken, behindFirst, InTwo}
 use Rattle.pieces.proofs.Numbered.{cut-run, cut-handed, cut-asked}
-
--- ---- a piece that is taken
-
-enough : (b : Board) (xs : List ℕ) (r : Room) → isTaken b xs r ≡ true → within (yields b xs) r ≡ true
-unfolding isTaken
-enough b xs r e = let w = within (yields b xs) r in is-true w (and-right (inRange b) w (holds e))
-
-takes : (b : Board) (xs : List ℕ) (r : Room) → InBoard b → within (yields b xs) r ≡ true → isTaken b xs r ≡ true
-unfolding isTaken
-takes b xs r i w = ap₂ (λ (s t : Bool). s && t) (tested b i) w
-
-pub when-taken : (b : Board) (xs : List ℕ) (r : Room) → InBoard b → isTaken b xs r ≡ true
-    → linesOf b xs r ≡ passage (run b (singly xs)) Taken (yields b xs)
-unfolding linesOf
-when-taken b xs r i e =
-    ap₂ (λ (s t : Bool). cond s
-    (cond t (passage (run b (singly xs)) Taken (yields b xs)) (refused b NoRoom)) (refused b Broken)) (tested b i)
-    (enough b xs r e)
+use Rattle.pieces.proofs.Taken.{has-room, takes, when-taken, counted}
 
 -- ---- outputs, one written behind the other
 
@@ -74,43 +54,41 @@ module _ (b : Board) (i : InBoard b) (xs ys : List ℕ) (r : Room) where
   rest = behindIt (passage c Taken (yields b xs)) r
 
   module _ (e : isTaken b (xs ++ ys) r ≡ true) where
-    fits : Fits (yields b (xs ++ ys)) r
-    fits = fits-tested (yields b (xs ++ ys)) r (enough b (xs ++ ys) r e)
+    fits : RoomFor b (xs ++ ys) r
+    fits = has-room b (xs ++ ys) r e .1
 
     first-taken : isTaken b xs r ≡ true
     first-taken =
-        takes b xs r i
-        (passes (yields b xs) r
+        takes b xs r (tested b i)
         (record {
           keyboard = omega (arith, fits .keyboard, long Keyboard);
           modem = omega (arith, fits .modem, long Modem);
           socket = omega (arith, fits .socket, long Socket);
           requests = omega (arith, fits .requests, long-asked);
-        }))
+        })
 
     then-taken : isTaken c ys rest ≡ true
     then-taken =
-        takes c ys rest i′
-        (passes (yields c ys) rest
+        takes c ys rest (tested c i′)
         (record {
           keyboard = omega (arith, fits .keyboard, long Keyboard);
           modem = omega (arith, fits .modem, long Modem);
           socket = omega (arith, fits .socket, long Socket);
           requests = omega (arith, fits .requests, long-asked);
-        }))
+        })
 
     first-is : linesOf b xs r ≡ passage c Taken (yields b xs)
-    first-is = when-taken b xs r i first-taken
+    first-is = when-taken b xs r first-taken
 
     second-is : secondOf b xs ys r ≡ passage (run c (singly ys)) Taken (yields c ys)
     second-is =
-        ap (λ (p : Passage). linesOf (p .next) ys (behindIt p r)) first-is ∙ when-taken c ys rest i′ then-taken
+        ap (λ (p : Passage). linesOf (p .next) ys (behindIt p r)) first-is ∙ when-taken c ys rest then-taken
 
     second-taken : secondTaken b xs ys r ≡ true
     second-taken = ap (λ (p : Passage). isTaken (p .next) ys (behindIt p r)) first-is ∙ then-taken
 
     whole-is : linesOf b (xs ++ ys) r ≡ passage (run b (singly (xs ++ ys))) Taken (yields b (xs ++ ys))
-    whole-is = when-taken b (xs ++ ys) r i e
+    whole-is = when-taken b (xs ++ ys) r e
 
     -- a count of the whole, of the first and of the second call
     adds : (count : Passage → ℕ)
@@ -120,12 +98,12 @@ module _ (b : Board) (i : InBoard b) (xs ys : List ℕ) (r : Room) where
     adds count sum =
         ap count whole-is ∙ sum ∙ sym (ap₂ (λ (m n : ℕ). m + n) (ap count first-is) (ap count second-is))
 
-    counted : (m : Module) → Outside m
+    add-up : (m : Module) → Outside m
         → wrote m (linesOf b (xs ++ ys) r) ≡ wrote m (linesOf b xs r) + wrote m (secondOf b xs ys r)
-    counted Screen u = absurd u
-    counted Keyboard u = adds (wrote Keyboard) (long Keyboard)
-    counted Modem u = adds (wrote Modem) (long Modem)
-    counted Socket u = adds (wrote Socket) (long Socket)
+    add-up Screen u = absurd u
+    add-up Keyboard u = adds (wrote Keyboard) (long Keyboard)
+    add-up Modem u = adds (wrote Modem) (long Modem)
+    add-up Socket u = adds (wrote Socket) (long Socket)
 
     -- an output: what the whole hands out there is what both calls do, and the first wrote so many
     written : (whole : List ℕ) (part : Board → List ℕ) (us out : List ℕ) (n : ℕ) → whole ≡ us ++ part c → n ≡ length us
@@ -145,13 +123,7 @@ module _ (b : Board) (i : InBoard b) (xs ys : List ℕ) (r : Room) where
         (leftIn (isTaken b xs r) (handed m b xs) out)
     handed-so m u out =
         written (handed m b (xs ++ ys)) (λ (d : Board). handed m d ys) (handed m b xs) out (wrote m (linesOf b xs r))
-        (cut-handed m b xs ys) (ap (wrote m) first-is ∙ many m u)
-      where
-        many : (n : Module) → Outside n → wrote n (passage c Taken (yields b xs)) ≡ length (handed n b xs)
-        many Screen u = absurd u
-        many Keyboard u = refl
-        many Modem u = refl
-        many Socket u = refl
+        (cut-handed m b xs ys) (counted b xs r first-taken m u)
 
     pub in-two : InTwo b xs ys r
     in-two =
@@ -164,7 +136,7 @@ module _ (b : Board) (i : InBoard b) (xs ys : List ℕ) (r : Room) where
           answer = ap (λ (p : Passage). p .answer) whole-is;
           first-answer = ap (λ (p : Passage). p .answer) first-is;
           second-answer = ap (λ (p : Passage). p .answer) second-is;
-          counts = counted;
+          counts = add-up;
           requests = adds (λ (p : Passage). p .requests) long-asked;
           handed-out = handed-so;
           asked-for =
@@ -176,15 +148,13 @@ module _ (b : Board) (i : InBoard b) (xs ys : List ℕ) (r : Room) where
 
   pub in-one : isTaken b xs r ≡ true → secondTaken b xs ys r ≡ true → isTaken b (xs ++ ys) r ≡ true
   in-one e f =
-      let p = when-taken b xs r i e in
-      let n = fits-tested (yields b xs) r (enough b xs r e) in
-      let m = fits-tested (yields c ys) rest
-      (enough c ys rest (sym (ap (λ (q : Passage). isTaken (q .next) ys (behindIt q r)) p) ∙ f)) in
-      takes b (xs ++ ys) r i
-      (passes (yields b (xs ++ ys)) r
+      let p = when-taken b xs r e in
+      let n = has-room b xs r e .1 in
+      let m = has-room c ys rest (sym (ap (λ (q : Passage). isTaken (q .next) ys (behindIt q r)) p) ∙ f) .1 in
+      takes b (xs ++ ys) r (tested b i)
       (record {
         keyboard = omega (arith, n .keyboard, m .keyboard, long Keyboard);
         modem = omega (arith, n .modem, m .modem, long Modem);
         socket = omega (arith, n .socket, m .socket, long Socket);
         requests = omega (arith, n .requests, m .requests, long-asked);
-      }))
+      })

@@ -22,11 +22,10 @@ use Rattle.board.specs.declared.Board.{Board}
 use Rattle.board.specs.Calls.{following, switchedOn}
 use Rattle.board.specs.Runs.{Event, front, run, request, requests, InBoard}
 use Rattle.board.proofs.Ranges.{tested}
-use Rattle.board.proofs.Parts.{apart}
 use Rattle.board.proofs.Shown.{page-shown}
 use Rattle.pieces.specs.declared.Passage.{Passage}
 use Rattle.pieces.specs.Pieces.{singly, asked, linesOf, isTaken}
-use Rattle.pieces.proofs.Cut.{when-taken}
+use Rattle.pieces.proofs.Taken.{when-taken}
 
 each-byte : (bs : List ℕ) → singly bs ≡ map front (map byte bs)
 each-byte [] = refl
@@ -45,9 +44,8 @@ pub piece-shown : (vs bs qs : List ℕ) → Values vs → Sending 0 (madeOf vs) 
 unfolding requests
 piece-shown vs bs qs h s b i free p linked r t =
     let c = switchedOn b .next in
-    let e = page-shown vs bs qs h s b i free p linked in
-    let j = apart (front on ∷ []) b i .range in (
-      ap (λ (q : Passage). q .next .screen) (when-taken c bs r j t)
+    let e = page-shown vs bs qs h s b i free p linked in (
+      ap (λ (q : Passage). q .next .screen) (when-taken c bs r t)
           ∙ ap (λ (es : List Event). run c es .screen) (each-byte bs) ∙ e .0,
       ap (requests c) (each-byte bs)
           ∙ sym (ap (λ (ws : List ℕ). ws ++ requests c (map front (map byte bs))) (on-asks b i)) ∙ e .2,

@@ -5,20 +5,13 @@ use mathlib.Core.List.{List, _++_}
 use Prim.Native.Nat.{ℕ, _+_, _-_}
 use lib.ListN.{take, drop}
 use Rattle.wiring.specs.declared.Module.{Module}
-use Rattle.wiring.specs.declared.Module.the-variants.{Screen, Keyboard, Modem, Socket}
 use Rattle.front.specs.declared.Room.{Room}
 use Rattle.board.specs.declared.Board.{Board}
 use Rattle.board.specs.Runs.{Outside}
 use Rattle.pieces.specs.declared.Answer.the-variants.{Taken}
 use Rattle.pieces.specs.declared.Passage.{Passage}
 use Rattle.pieces.specs.Pieces.{handed, asked, linesOf, isTaken, leftIn}
-
--- the bytes that a call wrote for a module
-abbrev pub wrote : Module → Passage → ℕ
-wrote Screen p = 0
-wrote Keyboard p = p .keyboard
-wrote Modem p = p .modem
-wrote Socket p = p .socket
+use Rattle.pieces.specs.Claims.{wrote}
 
 -- the room behind what a call wrote
 abbrev pub behindIt : Passage → Room → Room

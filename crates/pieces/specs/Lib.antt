@@ -1,3 +1,4 @@
 pub mod Pieces
-pub mod Playing
+pub mod Claims
 pub mod Cuts
+pub mod Playing
