@@ -127,6 +127,12 @@ pub record Goes (b after : Board) (hs : List Heard) (cs : List Call) (outs : Mod
   pub asked : qs ≡ allAsked (sent (b .receiver) hs)
   pub range : InBoard after
 
+-- a call leaves the board as it was, and hands out nothing
+pub record Unmoved (b : Board) (o : Outcome) : Type 0 where
+  pub next : o .next ≡ b
+  pub silent : (m : Module) → outTo m o ≡ []
+  pub unasked : request o ≡ []
+
 -- a key, or a value from the socket, above 127; line bytes are never too large
 abbrev pub tooLarge : Event → Bool
 tooLarge (front h) = false

@@ -4,7 +4,7 @@
 ghost use mathlib.Core.Path.{_≡_};
 ghost use mathlib.Core.Bool.{true, false};
 ghost use mathlib.Core.List.{List, [], _∷_, _++_, map};
-ghost use Prim.Native.Nat.{ℕ, _≤_};
+ghost use Prim.Native.Nat.{ℕ, _≤_, _<_};
 ghost use lib.ListN.{length, replicate};
 ghost use Rattle.values.specs.Large.{Values};
 ghost use Rattle.wiring.specs.declared.Module.{Module};
@@ -14,26 +14,31 @@ ghost use Rattle.replies.specs.Replies.{statusesOf};
 ghost use Rattle.hearing.specs.declared.Unfinished.the-variants.{Free};
 ghost use Rattle.hearing.specs.Phrases.{Phrase, AllProper, allValues, allFlowing, Phrased};
 ghost use Rattle.phases.specs.declared.Phase.the-variants.{Off};
+ghost use Rattle.receiver.specs.States.{inRange as receiverInRange};
 ghost use Rattle.receiver.specs.Runs.{byte, on};
 ghost use Rattle.receiver.specs.Line.{madeOf, filled, joined, Sending};
 ghost use Rattle.ears.specs.declared.Ear.{Ear};
 ghost use Rattle.ears.specs.declared.Ear.the-variants.{Modem as modem};
 ghost use Rattle.links.specs.declared.Links.{Links};
-ghost use Rattle.links.specs.States.{unfinished};
+ghost use Rattle.links.specs.States.{unfinished, inRange as linksInRange};
 ghost use Rattle.links.specs.Runs.{Throughout};
 ghost use Rattle.answers.specs.declared.Answer.the-variants.{Taken as TakenByScreen};
 ghost use Rattle.screen.specs.Calls.{ran};
-ghost use Rattle.links.specs.declared.Answer.the-variants.{TooLarge, Broken};
+ghost use Rattle.links.specs.declared.Answer.the-variants.{Taken, TooLarge, Broken};
 ghost use Rattle.links.specs.Calls.{told};
-ghost use Rattle.feeding.specs.Feeding.{fromLine, fed, Enough};
+ghost use Rattle.feeding.specs.Feeding.{fromLine, nobody, fed, Enough};
 ghost use Rattle.board.specs.declared.Board.{Board};
 ghost use Rattle.board.specs.Boards.{freshBoard, inRange};
-ghost use Rattle.board.specs.Calls.{refused, switchedOn};
+ghost use Rattle.board.specs.Calls.{refused, joined as joinedOf, atLine, switchedOn};
 ghost use Rattle.board.specs.Pages.{NoCommand};
-ghost use Rattle.board.specs.Runs.{Event, front, obey, run, handedTo, requests, heardIn, callsIn, Goes, InBoard, tooLarge};
-ghost use Rattle.board.specs.Runs.{callTold};
+ghost use Rattle.board.specs.Runs.{Event, front, obey, run, handedTo, requests, heardIn, callsIn};
+ghost use Rattle.board.specs.Runs.{Goes, InBoard, Unmoved, tooLarge, callTold};
 ghost use Rattle.front.specs.declared.Room.{Room};
+ghost use Rattle.front.specs.declared.Front.{Front};
+ghost use Rattle.front.specs.Hearing.{heardBy, unheard};
 ghost use Rattle.pieces.specs.Pieces.{told as pieceTold, linesOf, linesTold, isTaken, singly, handed, asked};
+ghost use Rattle.pieces.specs.Claims.{TakenWhole, NothingTaken, RoomFor};
+ghost use Rattle.pieces.specs.Playing.{frontOf};
 ghost use Rattle.pieces.specs.Cuts.{secondTaken, InTwo};
 ghost use Rattle.board_demands.specs.Example.{arrived, wanted, shown};
 
@@ -106,14 +111,21 @@ pub fn each_call_gives_its_number()
     ensures broken { λ _. ⌜ ((e : Event) (b : Board) → inRange b ≡ false → obey e b ≡ refused b Broken) ⌝ }
     ensures large { λ _. ⌜ ((e : Event) (b : Board) → inRange b ≡ true → tooLarge e ≡ true
         → obey e b ≡ refused b TooLarge) ⌝ }
+    ensures unmoved { λ _. ⌜ ((e : Event) (b : Board) → (obey e b .answer ≡ Taken → ⊥) → Unmoved b (obey e b)) ⌝ }
 {}
 
-// A piece's number: 5 where any part is out of range, then 4 where an output lacks room, and else 0. A piece that is
-// not taken leaves the board as it was.
+// A piece's number: 5 where any part is out of range, then 4 where an output lacks room, and else 0; there is room
+// where each output has as many places as single calls hand out bytes there. A piece that is taken is the single calls,
+// one for each byte: the board after them, and as many bytes written as they hand out; an output begins with what is
+// handed out there, and is as it was behind it. A piece that is not taken leaves the board and every output as they
+// were.
 pub fn a_piece_gives_its_number()
     ensures { λ _. ⌜ ((b : Board) (xs : List ℕ) (r : Room) → pieceTold (linesOf b xs r .answer) ≡ linesTold b xs r) ⌝ }
-    ensures kept { λ _. ⌜ ((b : Board) (xs : List ℕ) (r : Room) → isTaken b xs r ≡ false
-        → linesOf b xs r .next ≡ b) ⌝ }
+    ensures room { λ _. ⌜ ((b : Board) (xs : List ℕ) (r : Room)
+        → (isTaken b xs r ≡ true → (inRange b ≡ true) × RoomFor b xs r)
+        × (inRange b ≡ true → RoomFor b xs r → isTaken b xs r ≡ true)) ⌝ }
+    ensures whole { λ _. ⌜ ((b : Board) (xs : List ℕ) (r : Room) → isTaken b xs r ≡ true → TakenWhole b xs r) ⌝ }
+    ensures kept { λ _. ⌜ ((b : Board) (xs : List ℕ) (r : Room) → isTaken b xs r ≡ false → NothingTaken b xs r) ⌝ }
 {}
 
 // However a piece is cut in two, two calls come to what one comes to, the second being lent what stands behind what the
@@ -136,4 +148,18 @@ pub fn a_cut_changes_nothing()
 // Seventy-five places suffice for what any module gets of the fifteen values that a line byte can bring.
 pub fn seventy_five_places_suffice()
     ensures { λ _. ⌜ ((l : Links) (vs : List ℕ) → length vs ≤ 15 → Enough (fed l vs .shares)) ⌝ }
+{}
+
+// Hearing a line byte by itself (`front::hear`) and handing values on (`feeding::feed`) give no number: the board's
+// calls give it, and do the rest. A byte heard by receiver and links of a board in range is what the call `line` does,
+// but for the screen, which is then written. What would be 5 or 2 changes nothing: a broken receiver hears nothing;
+// broken links take no value, and nobody gets anything; and a value above 127 is left out.
+pub fn hearing_is_the_call_without_its_number()
+    ensures { λ _. ⌜ ((b : Board) (x : ℕ) → inRange b ≡ true → atLine b x ≡ (let h = heardBy (frontOf b) x in
+        joinedOf b (h .front .receiver) (h .front .links) (h .shares) Taken (h .request) (h .asked))) ⌝ }
+    ensures receiver { λ _. ⌜ ((f : Front) (x : ℕ) → receiverInRange (f .receiver) ≡ false → heardBy f x ≡ unheard f) ⌝ }
+    ensures links { λ _. ⌜ ((l : Links) → linksInRange l ≡ false → (vs : List ℕ)
+        → fed l vs ≡ record { links = l; shares = nobody }) ⌝ }
+    ensures large { λ _. ⌜ ((l : Links) → linksInRange l ≡ true → (v : ℕ) → 127 < v → (vs : List ℕ)
+        → fed l (v ∷ vs) ≡ fed l vs) ⌝ }
 {}
