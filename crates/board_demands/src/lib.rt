@@ -15,6 +15,7 @@ ghost use Rattle.hearing.specs.declared.Unfinished.the-variants.{Free};
 ghost use Rattle.hearing.specs.Phrases.{Phrase, AllProper, allValues, allFlowing, Phrased};
 ghost use Rattle.phases.specs.declared.Phase.the-variants.{Off};
 ghost use Rattle.receiver.specs.States.{inRange as receiverInRange};
+ghost use Rattle.receiver.specs.Calls.{stepped};
 ghost use Rattle.receiver.specs.Runs.{byte, on};
 ghost use Rattle.receiver.specs.Line.{madeOf, filled, joined, Sending};
 ghost use Rattle.ears.specs.declared.Ear.{Ear};
@@ -153,11 +154,14 @@ pub fn seventy_five_places_suffice()
 // Hearing a line byte by itself (`front::hear`) and handing values on (`feeding::feed`) give no number: the board's
 // calls give it, and do the rest. A byte heard by receiver and links of a board in range is what the call `line` does,
 // but for the screen, which is then written. What would be 5 or 2 changes nothing: a broken receiver hears nothing;
-// broken links take no value, and nobody gets anything; and a value above 127 is left out.
+// broken links take no value, and nobody gets anything, while the receiver goes on; and a value above 127 is left out.
 pub fn hearing_is_the_call_without_its_number()
     ensures { λ _. ⌜ ((b : Board) (x : ℕ) → inRange b ≡ true → atLine b x ≡ (let h = heardBy (frontOf b) x in
         joinedOf b (h .front .receiver) (h .front .links) (h .shares) Taken (h .request) (h .asked))) ⌝ }
     ensures receiver { λ _. ⌜ ((f : Front) (x : ℕ) → receiverInRange (f .receiver) ≡ false → heardBy f x ≡ unheard f) ⌝ }
+    ensures behind { λ _. ⌜ ((f : Front) (x : ℕ) → linksInRange (f .links) ≡ false
+        → (heardBy f x .front .links ≡ f .links) × (heardBy f x .shares ≡ nobody)
+        × (heardBy f x .front .receiver ≡ stepped (f .receiver) x .next)) ⌝ }
     ensures links { λ _. ⌜ ((l : Links) → linksInRange l ≡ false → (vs : List ℕ)
         → fed l vs ≡ record { links = l; shares = nobody }) ⌝ }
     ensures large { λ _. ⌜ ((l : Links) → linksInRange l ≡ true → (v : ℕ) → 127 < v → (vs : List ℕ)
