@@ -2,13 +2,13 @@
 // board and pieces define, so that the check's log names it. Their words are those of crates/board/specs/Runs.antt and
 // crates/pieces/specs/Pieces.antt, and each is proved in the crate whose words it speaks.
 ghost use mathlib.Core.Path.{_≡_};
-ghost use mathlib.Core.Bool.{true, false};
+ghost use mathlib.Core.Bool.{true, false, cond};
 ghost use mathlib.Core.List.{List, [], _∷_, _++_, map};
 ghost use Prim.Native.Nat.{ℕ, _≤_, _<_};
 ghost use lib.ListN.{length, replicate};
 ghost use Rattle.values.specs.Large.{Values};
 ghost use Rattle.wiring.specs.declared.Module.{Module};
-ghost use Rattle.wiring.specs.declared.Module.the-variants.{Screen, Modem};
+ghost use Rattle.wiring.specs.declared.Module.the-variants.{Screen, Keyboard, Modem, Socket};
 ghost use Rattle.wiring.specs.Tables.{reaches};
 ghost use Rattle.replies.specs.Replies.{statusesOf};
 ghost use Rattle.hearing.specs.declared.Unfinished.the-variants.{Free};
@@ -16,10 +16,10 @@ ghost use Rattle.hearing.specs.Phrases.{Phrase, AllProper, allValues, allFlowin
 ghost use Rattle.phases.specs.declared.Phase.the-variants.{Off};
 ghost use Rattle.receiver.specs.States.{inRange as receiverInRange};
 ghost use Rattle.receiver.specs.Calls.{stepped};
-ghost use Rattle.receiver.specs.Runs.{byte, on};
+ghost use Rattle.receiver.specs.Runs.{Event as Heard, byte, on, obey as receiverObey, sentBy};
 ghost use Rattle.receiver.specs.Line.{madeOf, filled, joined, Sending};
 ghost use Rattle.ears.specs.declared.Ear.{Ear};
-ghost use Rattle.ears.specs.declared.Ear.the-variants.{Modem as modem};
+ghost use Rattle.ears.specs.declared.Ear.the-variants.{Modem as modem, Socket as port};
 ghost use Rattle.links.specs.declared.Links.{Links};
 ghost use Rattle.links.specs.States.{unfinished, inRange as linksInRange};
 ghost use Rattle.links.specs.Runs.{Throughout};
@@ -32,7 +32,8 @@ ghost use Rattle.board.specs.declared.Board.{Board};
 ghost use Rattle.board.specs.Boards.{freshBoard, inRange};
 ghost use Rattle.board.specs.Calls.{refused, joined as joinedOf, atLine, switchedOn};
 ghost use Rattle.board.specs.Pages.{NoCommand};
-ghost use Rattle.board.specs.Runs.{Event, front, obey, run, handedTo, requests, heardIn, callsIn};
+ghost use Rattle.board.specs.Runs.{Event, front, key, socket, toLocal, toConnected, obey, run, outTo, request};
+ghost use Rattle.board.specs.Runs.{handedTo, requests, heardIn, callsIn, Outside};
 ghost use Rattle.board.specs.Runs.{Goes, InBoard, Unmoved, tooLarge, callTold};
 ghost use Rattle.front.specs.declared.Room.{Room};
 ghost use Rattle.front.specs.declared.Front.{Front};
@@ -49,6 +50,28 @@ ghost use Rattle.board_demands.specs.Example.{arrived, wanted, shown};
 pub fn each_part_goes_its_own_way()
     ensures { λ _. ⌜ ((b : Board) → InBoard b → (es : List Event)
         → Goes b (run b es) (heardIn es) (callsIn (b .receiver) es) (λ m. handedTo m b es) (requests b es)) ⌝ }
+{}
+
+// One call on a board in range. A byte, a switching or an asking is the receiver's own call, and what that asks is what
+// the board hands out to be asked. A key, and a value other than ESC from the socket with nothing unfinished there, is
+// handed out to just the modules that keyboard or socket is linked to, and shown where that is linked to the screen. The
+// host's choice gives the local or the connected table, told by the statuses of screen, keyboard, modem and socket.
+pub fn each_call_reaches_its_part()
+    ensures line { λ _. ⌜ ((h : Heard) (b : Board) → InBoard b
+        → (obey (front h) b .next .receiver ≡ receiverObey h (b .receiver) .next)
+        × (request (obey (front h) b) ≡ sentBy (receiverObey h (b .receiver)) .asked)) ⌝ }
+    ensures keys { λ _. ⌜ ((b : Board) → InBoard b → (v : ℕ) → v < 128 → ((m : Module) → Outside m
+        → outTo m (obey (key v) b) ≡ cond (reaches (b .links .table) Keyboard m) (v ∷ []) [])
+        × (obey (key v) b .next .screen
+        ≡ ran (b .screen) (cond (reaches (b .links .table) Keyboard Screen) (v ∷ []) []) .screen)) ⌝ }
+    ensures socket { λ _. ⌜ ((b : Board) → InBoard b → unfinished (b .links) port ≡ Free → (v : ℕ) → v < 128
+        → (v ≡ 27 → ⊥) → ((m : Module) → Outside m
+        → outTo m (obey (socket v) b) ≡ cond (reaches (b .links .table) Socket m) (v ∷ []) [])
+        × (obey (socket v) b .next .screen
+        ≡ ran (b .screen) (cond (reaches (b .links .table) Socket Screen) (v ∷ []) []) .screen)) ⌝ }
+    ensures tables { λ _. ⌜ ((b : Board) → InBoard b
+        → (statusesOf (obey toLocal b .next .links .table) ≡ 77 ∷ 66 ∷ 70 ∷ 74 ∷ [])
+        × (statusesOf (obey toConnected b .next .links .table) ≡ 69 ∷ 66 ∷ 78 ∷ 76 ∷ [])) ⌝ }
 {}
 
 // The page shown is the page sent. Values are made into blocks and arrive as `Sending` allows, hit, resent and all; a
