@@ -18,15 +18,23 @@ use Rattle.feeding.proofs.Outlets.{held}
 use Rattle.feeding.proofs.Suffices.{run-append, got-append, small-got}
 use Rattle.page.specs.declared.Screen.{Screen as Page}
 use Rattle.page.specs.Ranges.{InScreen}
+use Rattle.page.proofs.Stays.{unbroken}
+use Rattle.answers.specs.declared.Answer.the-variants.{Taken}
 use Rattle.screen.specs.declared.Ran.{Ran}
 use Rattle.screen.specs.Calls.{ran}
-use Rattle.screen.proofs.Given.{ran-none, ran-in, run-parts}
+use Rattle.screen.proofs.Given.{ran-none, ran-in, run-parts, run-taken}
 use Rattle.board.specs.declared.Board.{Board}
 use Rattle.board.specs.declared.Outcome.{Outcome}
 use Rattle.board.specs.Calls.{following, followed, passing, passedOn}
 use Rattle.board.specs.Runs.{Event, front, key, socket, toLocal, toConnected, obeyFront, obey, run}
 use Rattle.board.specs.Runs.{outTo, request, handedTo, requests, heardIn, callsIn, Outside, InBoard, Goes}
 use Rattle.board.proofs.Ranges.{tested}
+
+-- a screen in range takes whatever the links send it
+screen-takes : (b : Board) (cs : List Call) → InBoard b → ran (b .screen) (got Screen (b .links) cs) .answer ≡ Taken
+screen-takes b cs i =
+    let vs = got Screen (b .links) cs in
+    ap (λ (r : Ran). r .answer) (run-taken (b .screen) vs (unbroken (i .screen)) (small-got Screen (b .links) cs))
 
 -- ---- one call
 
@@ -62,6 +70,7 @@ front-alone h b i =
       receiver = refl;
       links = refl;
       screen = ap (λ (vs : List ℕ). ran (b .screen) vs .screen) (held (g Screen));
+      taken = screen-takes b cs i;
       handed = out-of g (followed b s) refl refl refl;
       asked = sym (append-nil (sentBy s .asked));
       range =
@@ -88,6 +97,7 @@ call-alone c b i =
       receiver = refl;
       links = refl;
       screen = ap (λ (vs : List ℕ). ran (b .screen) vs .screen) shown;
+      taken = screen-takes b (c ∷ []) i;
       handed = λ m u. out-of g (passedOn b o) refl refl refl m u ∙ all m;
       asked = refl;
       range =
@@ -119,6 +129,7 @@ further {b} {c} {d} {hs} {gs} {cs} {ds} {outs} {more} {qs} {ps} i f n =
           (sym (run-parts (b .screen) (got Screen (b .links) cs) (got Screen (linksRun (b .links) cs) ds) (i .screen)
           (small-got Screen (b .links) cs) (small-got Screen (linksRun (b .links) cs) ds)))
           ∙ ap (λ (vs : List ℕ). ran (b .screen) vs .screen) (sym (got-append Screen (b .links) cs ds));
+      taken = screen-takes b (cs ++ ds) i;
       handed =
           λ m u. ap₂ (λ (x y : List ℕ). x ++ y) (f .handed m u) (n .handed m u ∙ next m)
           ∙ sym (got-append m (b .links) cs ds);
@@ -143,6 +154,7 @@ apart [] b i =
       receiver = refl;
       links = refl;
       screen = sym (ran-none (b .screen));
+      taken = screen-takes b [] i;
       handed = λ m u. refl;
       asked = refl;
       range = i;

@@ -1,12 +1,20 @@
 -- The test that the calls make passes just the boards whose parts are in range. Assumes nothing.
-use mathlib.Core.Path.{_≡_}
+use mathlib.Core.Path.{_≡_, refl}
 use mathlib.Core.Bool.{true, _&&_, not}
 use lib.ListN.{length}
 use Rattle.laws.proofs.Computed.{and-left, and-right, holds, is-true}
+use Rattle.values.specs.Large.{Values}
+use Rattle.values.proofs.Found.{values-none}
+use Rattle.wiring.specs.declared.Module.the-variants.{Screen, Keyboard, Modem, Socket}
+use Rattle.wiring.specs.Tables.{NoneItself}
+use Rattle.hearing.specs.Hearing.{codesOf}
+use Rattle.ears.specs.declared.Ear.{Ear}
+use Rattle.ears.specs.declared.Ear.the-variants.{Modem as modem, Socket as socket}
 use Rattle.receiver.specs.States.{inRange as receiverInRange}
 use Rattle.receiver.proofs.Kept.{new-in}
-use Rattle.links.specs.States.{inRange as linksInRange}
-use Rattle.links.proofs.Ranges.{not-true, passed, tested as links-tested, local-in}
+use Rattle.links.specs.States.{unfinished, inRange as linksInRange}
+use Rattle.links.specs.Runs.{InRange as LinksIn}
+use Rattle.links.proofs.Ranges.{not-true, passed, tested as links-tested}
 use Rattle.page.specs.Ranges.{broken}
 use Rattle.page.proofs.Stays.{true-screen, whole, unbroken, fresh-in-range}
 use Rattle.board.specs.declared.Board.{Board}
@@ -17,8 +25,21 @@ pub tested : (b : Board) → InBoard b → inRange b ≡ true
 unfolding inRange
 tested b i = simp (i .receiver .range, passed (b .links) (i .links), unbroken (i .screen))
 
+fresh-links : LinksIn (freshBoard .links)
+fresh-links = record { none-itself = alone; small = none }
+  where
+    alone : NoneItself (freshBoard .links .table)
+    alone Screen = refl
+    alone Keyboard = refl
+    alone Modem = refl
+    alone Socket = refl
+
+    none : (e : Ear) → Values (codesOf (unfinished (freshBoard .links) e))
+    none modem = values-none
+    none socket = values-none
+
 pub fresh-in : InBoard freshBoard
-fresh-in = record { receiver = new-in; links = local-in; screen = fresh-in-range }
+fresh-in = record { receiver = new-in; links = fresh-links; screen = fresh-in-range }
 
 -- what the test passes is in range: the arrays of every board have their lengths
 pub passed-in : (b : Board) → length (b .receiver .held) ≡ 17 → length (b .screen .cells) ≡ 1000 → inRange b ≡ true

@@ -1,11 +1,15 @@
 -- Refusals: 5 before 2, the board handed back, and nothing handed out. Assumes nothing.
-use mathlib.Core.Path.{_≡_, refl, sym, ap, _∙_}
+use mathlib.Core.Path.{_≡_, refl, sym, ap, _∙_, subst⁻¹}
+use mathlib.Core.List.{[]}
 use mathlib.Core.Bool.{Bool, true, false, not, _&&_}
 use Rattle.laws.proofs.Computed.{and-left, and-right, fails, holds, is-true}
 use Rattle.numbers.specs.Numbers.{toldOf}
 use Rattle.receiver.specs.States.{inRange as receiverInRange}
 use Rattle.receiver.specs.Runs.{byte, on, off, ask}
+use Rattle.wiring.specs.declared.Module.{Module}
+use Rattle.wiring.specs.declared.Module.the-variants.{Screen, Keyboard, Modem, Socket}
 use Rattle.ears.specs.declared.Ear.the-variants.{Socket as fromSocket}
+use Rattle.links.specs.declared.Answer.{Answer}
 use Rattle.links.specs.declared.Answer.the-variants.{Taken, TooLarge, Broken}
 use Rattle.links.specs.States.{inRange as linksInRange}
 use Rattle.links.specs.Calls.{told}
@@ -19,7 +23,8 @@ use Rattle.board.specs.declared.Board.{Board}
 use Rattle.board.specs.declared.Outcome.{Outcome}
 use Rattle.board.specs.Boards.{inRange}
 use Rattle.board.specs.Calls.{refused, following, passing}
-use Rattle.board.specs.Runs.{Event, front, key, socket, toLocal, toConnected, obey, tooLarge, callTold}
+use Rattle.board.specs.Runs.{Event, front, key, socket, toLocal, toConnected, obey, outTo, tooLarge, callTold}
+use Rattle.board.specs.Runs.{Unmoved}
 
 pub broken : (e : Event) (b : Board) → inRange b ≡ false → obey e b ≡ refused b Broken
 unfolding following passing
@@ -73,6 +78,25 @@ taken-else-here (key v) b i t = call-taken (keyCall v) b i t
 taken-else-here (socket v) b i t = call-taken (value fromSocket v) b i t
 taken-else-here toLocal b i t = call-taken localCall b i refl
 taken-else-here toConnected b i t = call-taken connectedCall b i refl
+
+-- ---- whatever is refused changes nothing
+
+unmoved : (b : Board) (a : Answer) → Unmoved b (refused b a)
+unmoved b a = record { next = refl; silent = silent; unasked = refl }
+  where
+    silent : (m : Module) → outTo m (refused b a) ≡ []
+    silent Screen = refl
+    silent Keyboard = refl
+    silent Modem = refl
+    silent Socket = refl
+
+pub nothing-moves : (e : Event) (b : Board) → (obey e b .answer ≡ Taken → ⊥) → Unmoved b (obey e b)
+nothing-moves e b n = go (inRange b) (tooLarge e) refl refl
+  where
+    go : (i t : Bool) → inRange b ≡ i → tooLarge e ≡ t → Unmoved b (obey e b)
+    go true true f g = subst⁻¹ (Unmoved b) (large e b f g) (unmoved b TooLarge)
+    go true false f g = absurd (n (taken-else-here e b f g))
+    go false t f g = subst⁻¹ (Unmoved b) (broken e b f) (unmoved b Broken)
 
 -- ---- the numbers come of the conditions
 

@@ -19,6 +19,7 @@ use Rattle.links.specs.Runs.{run as linksRun}
 use Rattle.links.specs.Runs.{InRange as LinksIn}
 use Rattle.feeding.specs.Feeding.{fromLine, got, contents}
 use Rattle.page.specs.Ranges.{InScreen}
+use Rattle.answers.specs.declared.Answer.the-variants.{Taken}
 use Rattle.screen.specs.Calls.{ran}
 use Rattle.board.specs.declared.Board.{Board}
 use Rattle.board.specs.declared.Outcome.{Outcome}
@@ -115,15 +116,22 @@ pub record InBoard (b : Board) : Type 0 where
   pub screen : InScreen (b .screen)
 
 -- from one board to another each part goes its own way: the receiver by what it hears, the links by their calls, the
--- screen by what the links send it; these bytes are handed out, and these asked of the modem
+-- screen by what the links send it, which it takes; these bytes are handed out, and these asked of the modem
 pub record Goes (b after : Board) (hs : List Heard) (cs : List Call) (outs : Module → List ℕ) (qs : List ℕ)
     : Type 0 where
   pub receiver : after .receiver ≡ receiverRun (b .receiver) hs
   pub links : after .links ≡ linksRun (b .links) cs
   pub screen : after .screen ≡ ran (b .screen) (got Screen (b .links) cs) .screen
+  pub taken : ran (b .screen) (got Screen (b .links) cs) .answer ≡ Taken
   pub handed : (m : Module) → Outside m → outs m ≡ got m (b .links) cs
   pub asked : qs ≡ allAsked (sent (b .receiver) hs)
   pub range : InBoard after
+
+-- a call leaves the board as it was, and hands out nothing
+pub record Unmoved (b : Board) (o : Outcome) : Type 0 where
+  pub next : o .next ≡ b
+  pub silent : (m : Module) → outTo m o ≡ []
+  pub unasked : request o ≡ []
 
 -- a key, or a value from the socket, above 127; line bytes are never too large
 abbrev pub tooLarge : Event → Bool

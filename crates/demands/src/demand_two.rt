@@ -56,4 +56,7 @@ pub use link_demands::states::a_run_makes_the_public_calls;
 
 // the board
 pub use board_demands::a_cut_changes_nothing;
+pub use board_demands::a_fresh_board_is_off_local_and_blank;
+pub use board_demands::each_call_reaches_its_part;
 pub use board_demands::each_part_goes_its_own_way;
+pub use board_demands::the_page_shown_is_the_page_sent;

@@ -1,2 +1,3 @@
 pub mod Outlets
 pub mod Suffices
+pub mod Refused

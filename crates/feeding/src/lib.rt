@@ -94,14 +94,16 @@ fn nothing() -> Shares
     }
 }
 
-// What one call of the links sent.
+// What one call of the links sent; of a count above five there are five bytes.
 pub fn share_out(sent: Sent) -> Shares
     ensures { λ r. ⌜ (r ≡ sharesOf (gets sent)) × Enough r ⌝ }
 {
     gather(nothing(), sent)
 }
 
-// The first `passed` values, handed to the links as the modem's.
+// The first `passed` values, handed to the links as the modem's; there are fifteen at most. It gives no number: the
+// board's calls do, and test their board before they come here. Broken links take no value: they come back as they were,
+// and nobody gets anything. A value above 127 is left out, and those behind it are handed on.
 pub fn feed(start: Links, values: [u8; 15], passed: usize) -> Fed
     ensures { λ r. ⌜ (r ≡ fed start (take passed values)) × Enough (r .shares) ⌝ }
 {

@@ -1,2 +1,3 @@
 pub mod Onwards
 pub mod Rooms
+pub mod Refused

@@ -1,13 +1,13 @@
 -- Line bytes heard by the receiver and the links behind it (01, "What the board does"). Assumes nothing.
 use mathlib.Core.List.{List, [], _∷_, _++_}
 use Prim.Native.Nat.{ℕ}
-use lib.ListN.{take}
+use lib.ListN.{take, replicate}
 use Rattle.wiring.specs.declared.Module.{Module}
 use Rattle.receiver.specs.declared.Receiver.{Receiver}
 use Rattle.receiver.specs.Calls.{stepped}
 use Rattle.receiver.specs.Runs.{Event, byte, run as receiverRun, sentBy, sent, allAsked}
 use Rattle.links.specs.Runs.{Call, run as linksRun}
-use Rattle.feeding.specs.Feeding.{fromLine, got, fed}
+use Rattle.feeding.specs.Feeding.{fromLine, got, nobody, fed}
 use Rattle.front.specs.declared.Front.{Front}
 use Rattle.front.specs.declared.Heard.{Heard}
 
@@ -22,6 +22,10 @@ heardBy f x =
       request = s .request;
       asked = s .asked;
     }
+
+-- nothing is heard: the receiver and the links as they were, and nothing for anybody
+abbrev pub unheard : Front → Heard
+unheard f = record { front = f; shares = nobody; request = replicate 2 0; asked = 0 }
 
 -- ---- many bytes
 

@@ -48,7 +48,8 @@ fn spend(room: Room, need: Room) -> Left
     Left::Short
 }
 
-// Whether there is room for all that the piece yields.
+// Whether there is room for all that the piece yields. It gives no number: a broken receiver hears nothing, so that any
+// room will do, and broken links yield nothing, so that only the receiver's requests need room.
 pub fn fits(start: Front, piece: &[u8], room: Room) -> bool
     ensures { λ r. ⌜ r ≡ within (needed start (now (piece .entry))) «room» ⌝ }
 {

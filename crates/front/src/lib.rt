@@ -36,7 +36,9 @@ pub struct Room {
     pub requests: usize,
 }
 
-// One byte from the line.
+// One byte from the line. It gives no number: `lines` of the crate `pieces` does, and tests its board before it comes
+// here. A broken receiver hears nothing: it and the links come back as they were, with nothing for anybody. Broken links
+// take no value, so that nobody gets anything, while the receiver goes on. It passes on no value above 127.
 pub fn hear(front: Front, byte: u8) -> Heard
     ensures { λ r. ⌜ (r ≡ heardBy «front» byte) × Enough (r .shares) × (r .asked ≤ 2) ⌝ }
 {

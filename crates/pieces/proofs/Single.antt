@@ -15,11 +15,13 @@ use Rattle.page.specs.declared.Screen.{Screen as Page}
 use Rattle.screen.specs.Calls.{ran}
 use Rattle.board.specs.declared.Board.{Board}
 use Rattle.board.specs.Boards.{inRange}
+use Rattle.links.specs.declared.Answer.the-variants.{Taken as TakenByLinks}
+use Rattle.board.specs.Calls.{joined, following, atLine}
 use Rattle.board.specs.Runs.{run, heardIn, callsIn, Outside, InBoard}
 use Rattle.board.proofs.Parts.{apart}
 use Rattle.pieces.specs.declared.Answer.the-variants.{Taken, NoRoom, Broken}
 use Rattle.front.specs.declared.Room.{Room}
-use Rattle.front.specs.Hearing.{bytes, calls, toEach, asks}
+use Rattle.front.specs.Hearing.{heardBy, bytes, calls, toEach, asks}
 use Rattle.front.specs.Fitting.{within, needed}
 use Rattle.pieces.specs.Pieces.{singly, handed, asked, yields, passage, refused, linesOf, isTaken}
 use Rattle.pieces.specs.Playing.{frontOf, heardWhole, played}
@@ -33,6 +35,13 @@ unfolding calls
 calls-singly r [] = refl
 calls-singly r (x ∷ xs) =
     ap (λ (cs : List Call). fromLine (sentBy (stepped r x) .passed) ++ cs) (calls-singly (stepped r x .next) xs)
+
+-- one byte heard is one call of `line`, but for the screen, which is written then
+pub one-heard : (b : Board) (x : ℕ) → inRange b ≡ true
+    → atLine b x ≡ (let h = heardBy (frontOf b) x in
+    joined b (h .front .receiver) (h .front .links) (h .shares) TakenByLinks (h .request) (h .asked))
+unfolding following heardBy
+one-heard b x e = simp e
 
 module _ (b : Board) (i : InBoard b) (xs : List ℕ) where
   cs : callsIn (b .receiver) (singly xs) ≡ calls (b .receiver) xs

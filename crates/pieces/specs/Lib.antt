@@ -1,2 +1,4 @@
 pub mod Pieces
+pub mod Claims
+pub mod Cuts
 pub mod Playing

@@ -1,0 +1,34 @@
+-- What a fresh board is: off, with the local table, and blank. Assumes nothing.
+use mathlib.Core.Path.{_≡_, refl}
+use mathlib.Core.Bool.{false}
+use mathlib.Core.List.{List, [], _∷_}
+use lib.ListN.{replicate}
+use Rattle.phases.specs.declared.Phase.the-variants.{Off}
+use Rattle.replies.specs.Replies.{statusOf, statusesOf}
+use Rattle.hearing.specs.declared.Unfinished.the-variants.{Free}
+use Rattle.ears.specs.declared.Ear.{Ear}
+use Rattle.ears.specs.declared.Ear.the-variants.{Modem as modem, Socket as socket}
+use Rattle.links.specs.States.{unfinished}
+use Rattle.page.specs.Pages.{freshScreen}
+use Rattle.board.specs.Boards.{freshBoard}
+
+pub fresh-receiver : (freshBoard .receiver .phase ≡ Off) × (freshBoard .receiver .number ≡ 0)
+    × (freshBoard .receiver .count ≡ 0)
+fresh-receiver = (refl, refl, refl)
+
+-- the statuses of screen, keyboard, modem and socket
+pub fresh-statuses : statusesOf (freshBoard .links .table) ≡ 77 ∷ 66 ∷ 70 ∷ 74 ∷ []
+unfolding statusOf
+fresh-statuses = refl
+
+pub fresh-free : (e : Ear) → unfinished (freshBoard .links) e ≡ Free
+fresh-free modem = refl
+fresh-free socket = refl
+
+pub fresh-screen :
+    (freshBoard .screen .cells
+    ≡ replicate 1000 (record { set = 1; code = 32; ink = 7; ground = 0; flash = false; inverse = false }))
+    × (freshBoard .screen .pen .place .row ≡ 1) × (freshBoard .screen .pen .place .column ≡ 1)
+    × (freshBoard .screen .pen .shown ≡ false)
+unfolding freshScreen
+fresh-screen = (refl, refl, refl, refl)

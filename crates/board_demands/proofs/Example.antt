@@ -1,0 +1,65 @@
+-- The page of specs/Example, computed: what the receiver passes and asks, and what the screen shows of it. Assumes
+-- nothing.
+use mathlib.Core.Path.{_≡_, refl, ap, _∙_}
+use mathlib.Core.List.{List, [], _∷_, map}
+use Prim.Native.Nat.{ℕ}
+use native.Mathlib.Omega.{arith}
+use lib.ListN.{length}
+use Rattle.values.specs.Large.{Values, firstLarge}
+use Rattle.values.proofs.Found.{all-small}
+use Rattle.division.specs.Division.{lowBits, bits, reduce, divide}
+use Rattle.parity.specs.Parity.{ones, even, allEven, withParity}
+use Rattle.validity.specs.Block.{codeBits, remainder, valid}
+use Rattle.validity.specs.Changed.{flip}
+use Rattle.reader.specs.Judging.{tryFrom, verdict, left}
+use Rattle.wiring.specs.declared.Module.the-variants.{Screen}
+use Rattle.hearing.specs.declared.Unfinished.the-variants.{Free}
+use Rattle.hearing.specs.Phrases.{alone, AllProper, Phrased}
+use Rattle.receiver.specs.States.{newReceiver}
+use Rattle.receiver.specs.Runs.{Event as Heard, byte, on, sent, allPassed, allAsked}
+use Rattle.cells.specs.declared.Cell.{Cell}
+use Rattle.cells.specs.Within.{goodCharacter}
+use Rattle.sheet.specs.Clearing.{cleared}
+use Rattle.sheet.specs.Within.{allGood}
+use Rattle.pen.specs.Pens.{goodSpot, inRange as penInRange}
+use Rattle.planning.specs.Obeying.{gone, obeyed}
+use Rattle.page.specs.declared.Screen.{Screen as Page}
+use Rattle.page.specs.Pages.{freshScreen}
+use Rattle.page.specs.Ranges.{inRange, broken}
+use Rattle.screen.specs.Screens.{written, writtenTimes, applied, advanced, advancedBy}
+use Rattle.screen.specs.Calls.{ran}
+use Rattle.board.specs.Boards.{freshBoard}
+use Rattle.board.specs.Runs.{front, run, requests}
+use Rattle.board.proofs.Ranges.{fresh-in}
+use Rattle.board.proofs.Linked.{stays-linked}
+use Rattle.board.proofs.Shown.{shows}
+use Rattle.board_demands.specs.Example.{arrived, wanted, shown}
+
+abbrev heard : List Heard
+heard = on ∷ map byte arrived
+
+abbrev page : List ℕ
+page = 12 ∷ 65 ∷ 18 ∷ 74 ∷ 0 ∷ 0 ∷ 0 ∷ 0 ∷ 0 ∷ 0 ∷ 0 ∷ 0 ∷ 0 ∷ 0 ∷ 0 ∷ []
+
+on-the-line : (allPassed (sent newReceiver heard) ≡ page) × (allAsked (sent newReceiver heard) ≡ wanted)
+unfolding lowBits bits reduce divide ones even allEven withParity codeBits remainder valid flip tryFrom verdict left
+on-the-line = (refl, refl)
+
+on-the-screen : ran freshScreen page .screen .cells ≡ shown
+unfolding firstLarge cleared goodCharacter allGood goodSpot penInRange gone obeyed
+    freshScreen written writtenTimes applied advanced advancedBy inRange broken ran
+on-the-screen = refl
+
+small : Values page
+unfolding firstLarge
+small = all-small page (omega arith)
+
+no-esc : AllProper (map alone page)
+no-esc = (λ e. omega (arith, e), (λ e. omega (arith, e), (λ e. omega (arith, e), (λ e. omega (arith, e), (λ e. omega (arith, e), (λ e. omega (arith, e), (λ e. omega (arith, e), (λ e. omega (arith, e), (λ e. omega (arith, e), (λ e. omega (arith, e), (λ e. omega (arith, e), (λ e. omega (arith, e), (λ e. omega (arith, e), (λ e. omega (arith, e), (λ e. omega (arith, e), tt)))))))))))))))
+
+pub example : (run freshBoard (map front heard) .screen .cells ≡ shown) × (requests freshBoard (map front heard) ≡ wanted)
+example =
+    let p : Phrased page = record { phrases = map alone page; rest = Free; proper = no-esc; whole = refl } in
+    let e = shows freshBoard fresh-in refl heard page wanted (on-the-line .0) (on-the-line .1) small p
+    (stays-linked Screen (map alone page) (freshBoard .links) (fresh-in .links) refl refl no-esc tt small) in
+    (ap (λ (s : Page). s .cells) (e .0) ∙ on-the-screen, e .2)

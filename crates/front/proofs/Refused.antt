@@ -1,0 +1,42 @@
+-- A byte heard by a broken receiver, or by broken links behind it. Assumes nothing.
+use mathlib.Core.Path.{_≡_, refl, ap}
+use mathlib.Core.Bool.{false}
+use Prim.Native.Nat.{ℕ}
+use lib.ListN.{take}
+use Rattle.receiver.specs.declared.Stepped.{Stepped}
+use Rattle.receiver.specs.States.{inRange as receiverInRange}
+use Rattle.receiver.specs.Calls.{refused, stepped}
+use Rattle.links.specs.States.{inRange as linksInRange}
+use Rattle.feeding.specs.declared.Fed.{Fed}
+use Rattle.feeding.specs.Feeding.{got, nobody, fed}
+use Rattle.feeding.proofs.Refused.{broken-fed}
+use Rattle.front.specs.declared.Front.{Front}
+use Rattle.front.specs.declared.Heard.{Heard}
+use Rattle.front.specs.Hearing.{heardBy, unheard}
+
+-- the receiver refuses the byte, and nothing is heard
+pub broken-receiver : (f : Front) (x : ℕ) → receiverInRange (f .receiver) ≡ false → heardBy f x ≡ unheard f
+unfolding heardBy fed got
+broken-receiver f x i =
+    ap
+    (λ (s : Stepped). let g = fed (f .links) (take (s .passed) (s .values)) in
+    record {
+      front = record { receiver = s .next; links = g .links };
+      shares = g .shares;
+      request = s .request;
+      asked = s .asked;
+    })
+    (gone i)
+  where
+    gone : receiverInRange (f .receiver) ≡ false → stepped (f .receiver) x ≡ refused (f .receiver)
+    gone e = simp e
+
+-- the links refuse every value, and the receiver goes on
+pub broken-links : (f : Front) (x : ℕ) → linksInRange (f .links) ≡ false
+    → (heardBy f x .front .links ≡ f .links) × (heardBy f x .shares ≡ nobody)
+    × (heardBy f x .front .receiver ≡ stepped (f .receiver) x .next)
+unfolding heardBy
+broken-links f x i =
+    let s = stepped (f .receiver) x in
+    let e = broken-fed (f .links) i (take (s .passed) (s .values)) in
+    (ap (λ (g : Fed). g .links) e, ap (λ (g : Fed). g .shares) e, refl)
