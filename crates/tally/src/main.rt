@@ -125,6 +125,6 @@ fn main() {
         written = write_line(n, tally([0u8; 17], 0, n, n, none));
     }
     if !written {
-        os::fail(b"standard output");
+        os::fail(b"tally: standard output");
     }
 }
