@@ -9,6 +9,7 @@ mod block;
 mod board;
 mod judge;
 mod keeper_characters;
+mod keeper_faults;
 mod keeper_page;
 mod keeper_player;
 mod keeper_portions;
@@ -43,7 +44,7 @@ fn main() -> ExitCode {
         let mut output = Vec::new();
         let obeyed = obey(pair, &mut output);
         let written = io::stdout().write_all(&output);
-        let written = written.map_err(|error| format!("standard output: {error}"));
+        let written = written.map_err(|error| keeper_faults::of("standard output", error));
         // What was told before a fault is written before it is named.
         for fault in [written, obeyed].into_iter().filter_map(Result::err) {
             eprintln!("{fault}");

@@ -4,6 +4,8 @@ use std::fs::File;
 use std::io::{self, Read};
 use std::path::Path;
 
+use crate::keeper_faults;
+
 /// Bytes in a portion. It divides the next number.
 const PORTION: usize = 65_536;
 
@@ -14,9 +16,9 @@ const BYTES_TO_A_LINE: u64 = 1_048_576;
 /// is empty, is a fault.
 pub fn each_byte(name: &Path, taking: impl FnMut(u8)) -> Result<(), String> {
     match read(name, taking) {
-        Ok(0) => Err(format!("{}: empty", name.display())),
+        Ok(0) => Err(keeper_faults::of_file(name, "empty")),
         Ok(_) => Ok(()),
-        Err(error) => Err(format!("{}: {error}", name.display())),
+        Err(error) => Err(keeper_faults::of_file(name, error)),
     }
 }
 
@@ -36,7 +38,7 @@ fn read(name: &Path, mut taking: impl FnMut(u8)) -> io::Result<u64> {
         portion.into_iter().for_each(&mut taking);
         count += length as u64;
         if count % BYTES_TO_A_LINE == 0 {
-            eprintln!(".. {}: {count} bytes read", name.display());
+            eprintln!("{}", keeper_faults::how_far(name, count));
         }
     }
 }

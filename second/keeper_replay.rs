@@ -4,7 +4,7 @@ use std::path::Path;
 
 use crate::block::LENGTH;
 use crate::keeper_player::Player;
-use crate::{keeper_page, keeper_portions};
+use crate::{keeper_faults, keeper_page, keeper_portions};
 
 /// Tells every block and resumption, the totals, and the page.
 pub fn replay(name: &Path, text: &mut String) -> Result<(), String> {
@@ -56,8 +56,7 @@ fn at_the_end(name: &Path, player: &Player) -> Result<(), String> {
     if held == 0 {
         return Ok(());
     }
-    let (name, place) = (name.display(), player.bytes - held);
-    Err(format!(
-        "{name}: ends inside a block: {held} of its {LENGTH} bytes, from place {place}"
-    ))
+    let place = player.bytes - held;
+    let what = format!("ends inside a block: {held} of its {LENGTH} bytes, from place {place}");
+    Err(keeper_faults::of_file(name, what))
 }

@@ -3,7 +3,7 @@
 use std::path::Path;
 
 use crate::block::{self, USEFUL};
-use crate::keeper_portions;
+use crate::{keeper_faults, keeper_portions};
 
 const LARGEST_VALUE: u8 = 127;
 
@@ -12,10 +12,10 @@ pub fn send(name: &Path, output: &mut Vec<u8>) -> Result<(), String> {
     let mut values = Vec::new();
     keeper_portions::each_byte(name, |value| values.push(value))?;
     if let Some(place) = values.iter().position(|&value| value > LARGEST_VALUE) {
-        let (name, value) = (name.display(), values[place]);
-        return Err(format!(
-            "{name}: value {value} at place {place} is above {LARGEST_VALUE}; nothing is sent"
-        ));
+        let value = values[place];
+        let what =
+            format!("value {value} at place {place} is above {LARGEST_VALUE}; nothing is sent");
+        return Err(keeper_faults::of_file(name, what));
     }
     output.extend(values.chunks(USEFUL).flat_map(block::form));
     Ok(())

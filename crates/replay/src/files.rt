@@ -1,5 +1,8 @@
-// Files read in portions, and what is told of them on standard error.
+// Files read in portions, and what is told of them on standard error. A line that tells a fault begins with the
+// program's name, and one that says how far a file is with two dots. None begins with a file's name, so that no name
+// can make a fault look like the other.
 use crate::numbers::grown;
+use crate::texts::add;
 use crate::texts::compose;
 use crate::texts::first;
 
@@ -30,7 +33,7 @@ pub(crate) fn fill(fd: i32, name: &[u8], portion: &mut [u8]) -> Filled {
     while count < portion.len() {
         let got = libc::read(fd, &mut portion[count..]);
         if got < 0 {
-            os::fail(name);
+            fail(name);
         }
         let n = io::count(got, &portion[count..]);
         if n == 0 {
@@ -49,12 +52,48 @@ pub(crate) fn fill(fd: i32, name: &[u8], portion: &mut [u8]) -> Filled {
     }
 }
 
-// Writes a line on standard error: the file's name, and a template with its numbers after it.
-pub(crate) fn complain(name: &[u8], template: &[u8], numbers: &[u64]) {
-    let mut text = [0u8; 128];
-    let used = compose(template, numbers, &mut text);
-    io::write_all(libc::STDERR_FILENO, name);
+// As many bytes as a line on standard error may have: a name of the longest, and what stands around it.
+const LINE: usize = 4096 + 160;
+
+// A byte of a name as it is shown: of a control, as a line break is one, a question mark, so that a line stays one.
+fn shown(byte: u8) -> u8 {
+    if byte < 32 || byte == 127 {
+        return b'?';
+    }
+    byte
+}
+
+// Adds a name to a text, as it is shown.
+fn add_name(name: &[u8], text: &mut [u8], used: usize) -> usize {
+    let mut at = used;
+    let mut i = 0;
+    while i < name.len() {
+        at = add(&[shown(name[i])], text, at);
+        i += 1;
+    }
+    at
+}
+
+// Writes a line on standard error: how it begins, the file's name, and a template with its numbers after it.
+fn say(start: &[u8], name: &[u8], template: &[u8], numbers: &[u64]) {
+    let mut text = [0u8; LINE];
+    let begun = add(start, &mut text, 0);
+    let named = add_name(name, &mut text, begun);
+    let used = compose(template, numbers, &mut text, named);
     io::write_all(libc::STDERR_FILENO, first(&text, used));
+}
+
+// Tells a fault of a file.
+pub(crate) fn complain(name: &[u8], template: &[u8], numbers: &[u64]) {
+    say(b"replay: ", name, template, numbers);
+}
+
+// Tells a fault of a file, or of what else is named, as the system says it.
+pub(crate) fn fail(name: &[u8]) {
+    let mut text = [0u8; LINE];
+    let begun = add(b"replay: ", &mut text, 0);
+    let used = add_name(name, &mut text, begun);
+    os::fail(first(&text, used));
 }
 
 // Whether a file has any bytes, of which so many are read; an empty one is a fault.
@@ -72,6 +111,5 @@ pub(crate) fn show_progress(name: &[u8], before: u64, more: usize) {
     if before / STRIDE == strides {
         return;
     }
-    io::write_all(libc::STDERR_FILENO, b".. ");
-    complain(name, b": # bytes read\n", &[strides * STRIDE]);
+    say(b".. ", name, b": # bytes read\n", &[strides * STRIDE]);
 }

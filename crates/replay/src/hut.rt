@@ -1,15 +1,20 @@
 // The board that plays a record: fresh, its receiver switched on and its links connected. Everything that touches a
 // board is here.
+use crate::files::complain;
 use crate::numbers::grown;
 use board::Board;
+use pieces::Answer;
+use pieces::Passage;
 
 // As many bytes as an output may need for a piece: the blocks that end in it carry at most fifteen values more than it
 // has bytes, and no value sends more than five.
 const ROOM: usize = 5 * (4096 + 15);
 
-// A board, how many bytes it has heard, and how many its links have handed out.
+// A board, whether it has taken every piece so far, how many bytes it has heard, and how many its links have handed
+// out.
 pub(crate) struct Play {
     pub(crate) board: Board,
+    pub(crate) taking: bool,
     pub(crate) read: u64,
     pub(crate) keyboard: u64,
     pub(crate) modem: u64,
@@ -24,6 +29,7 @@ pub(crate) fn begun() -> Play {
     let board = connected.next;
     Play {
         board,
+        taking: true,
         read: 0,
         keyboard: 0,
         modem: 0,
@@ -31,8 +37,9 @@ pub(crate) fn begun() -> Play {
     }
 }
 
-// A piece from the line, of at most 4,096 bytes.
-pub(crate) fn hear(play: Play, piece: &[u8]) -> Play {
+// A piece from the line, of at most 4,096 bytes. One that is not taken gets a line on standard error, and counts as not
+// heard.
+pub(crate) fn hear(play: Play, name: &[u8], piece: &[u8]) -> Play {
     let mut keyboard = [0u8; ROOM];
     let mut modem = [0u8; ROOM];
     let mut socket = [0u8; ROOM];
@@ -45,12 +52,38 @@ pub(crate) fn hear(play: Play, piece: &[u8]) -> Play {
         &mut socket,
         &mut requests,
     );
+    let answer = heard.answer;
+    match answer {
+        Answer::Taken => taken(play, heard, piece.len()),
+        Answer::NoRoom => refused(
+            play,
+            name,
+            b": there is no room for what the # bytes from place # yield; they are not played\n",
+            piece.len(),
+        ),
+        Answer::Broken => refused(
+            play,
+            name,
+            b": the board is broken; the # bytes from place # are not played\n",
+            piece.len(),
+        ),
+    }
+}
+
+fn taken(play: Play, heard: Passage, count: usize) -> Play {
     let board = heard.next;
     Play {
         board,
-        read: grown(play.read, piece.len()),
+        taking: true,
+        read: grown(play.read, count),
         keyboard: grown(play.keyboard, heard.keyboard),
         modem: grown(play.modem, heard.modem),
         socket: grown(play.socket, heard.socket),
     }
+}
+
+fn refused(mut play: Play, name: &[u8], template: &[u8], count: usize) -> Play {
+    complain(name, template, &[count as u64, play.read]);
+    play.taking = false;
+    play
 }

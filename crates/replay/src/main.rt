@@ -10,10 +10,12 @@
 // records.rt     the commands that play a record, to its end
 // blocks.rt      the command that makes blocks of a file of values
 // texts.rt       texts put together in lent memory
+// checksums.rt   a number that tells two readings of a file apart
 // numbers.rt     sums and differences that stay within their type
 mod blocks;
 mod book;
 mod characters;
+mod checksums;
 mod files;
 mod hut;
 mod numbers;
@@ -21,6 +23,7 @@ mod records;
 mod rows;
 mod texts;
 
+use files::fail;
 use texts::first;
 use texts::is;
 
@@ -41,7 +44,7 @@ fn obey(command: &[u8], name: &[u8]) {
     }
     let fd = os::open_read(name);
     if fd < 0 {
-        os::fail(name);
+        fail(name);
         return;
     }
     if sending {
@@ -62,7 +65,7 @@ fn obey_pair(i: usize, j: usize) {
     match os::errno() {
         0 => obey(first(&word, k), first(&path, length)),
         libc::EINVAL => write_usage(),
-        _ => os::fail(b"the name of a file"),
+        _ => fail(b"the name of a file"),
     }
 }
 

@@ -15,31 +15,32 @@ use crate::rows::write_rows;
 use crate::texts::first;
 use page::Screen;
 
-// Plays a record to its end, or until reading it fails; what was read before is told all the same. No record has more
-// portions than turns.
+// Plays a record to its end, or until reading it fails or the board refuses it; what was played before is told all the
+// same. No record has more portions than turns.
 pub(crate) fn play(fd: i32, name: &[u8], telling: bool) {
     let mut portion = io::buffer();
     let mut book = book::begun();
     let mut play = hut::begun();
     let mut filled = unread();
     let mut turns = u64::MAX;
-    while turns > 0 && filled.more && book.written {
+    while turns > 0 && filled.more && book.written && play.taking {
         filled = fill(fd, name, &mut portion);
         let piece = first(&portion, filled.count);
-        if telling {
+        show_progress(name, play.read, filled.count);
+        play = hut::hear(play, name, piece);
+        if telling && play.taking {
             book = book::enter_all(book, piece);
         }
-        show_progress(name, play.read, filled.count);
-        play = hut::hear(play, piece);
         turns -= 1;
     }
-    if book.written && (!filled.failed || play.read > 0) {
-        tell_end(name, telling, book, play);
+    let whole = play.taking && !filled.failed;
+    if book.written && (whole || play.read > 0) {
+        tell_end(name, telling, whole, book, play);
     }
 }
 
-// What is told at a record's end. One that ends inside a block is not whole.
-fn tell_end(name: &[u8], telling: bool, book: Book, play: Play) {
+// What is told at a record's end, or where it was left. One that ends inside a block is not whole.
+fn tell_end(name: &[u8], telling: bool, whole: bool, book: Book, play: Play) {
     let board = play.board;
     let held = board.receiver.count as u64;
     if !is_there(name, play.read) {
@@ -51,10 +52,9 @@ fn tell_end(name: &[u8], telling: bool, book: Book, play: Play) {
             tell_totals(book, play.keyboard, play.modem, play.socket),
         );
     } else {
-        let cells = board.screen.cells;
-        write_rows(cells, true, true);
+        write_rows(board.screen, true, true);
     }
-    if held > 0 {
+    if whole && held > 0 {
         let place = difference(play.read, held);
         complain(
             name,
@@ -66,7 +66,6 @@ fn tell_end(name: &[u8], telling: bool, book: Book, play: Play) {
 
 // The page and its cursor.
 fn draw(screen: Screen, written: bool) {
-    let cells = screen.cells;
-    let drawn = write_rows(cells, false, written);
+    let drawn = write_rows(screen, false, written);
     write_cursor(screen.cursor(), drawn);
 }

@@ -6,6 +6,8 @@ use crate::texts::put;
 use crate::texts::tell;
 use cells::Cell;
 use page::Cursor;
+use page::Read;
+use page::Screen;
 
 // Whether two cells look the same but for their characters.
 fn are_alike(a: Cell, b: Cell) -> bool {
@@ -40,18 +42,26 @@ fn add_cell(cell: Cell, set: bool, text: &mut [u8], used: usize) -> usize {
     add_character(cell.set, cell.code, text, used)
 }
 
-// Adds the forty characters of a row; in colours, what sets them stands wherever they change.
-fn add_row(cells: [Cell; 1000], row: u8, coloured: bool, text: &mut [u8], used: usize) -> usize {
-    if 24 < row {
-        return used;
+// The cell that was read. A screen that a board hands back is never broken, and the places asked for here are on it;
+// were it otherwise, a question mark would show it.
+fn found(read: Read) -> Cell {
+    match read {
+        Read::There(cell) => cell,
+        Read::Off | Read::Broken => {
+            let mut cell = cells::blank();
+            cell.code = b'?';
+            cell
+        }
     }
-    let start = 40 * (row as usize);
+}
+
+// Adds the forty characters of a row; in colours, what sets them stands wherever they change.
+fn add_row(screen: Screen, row: u8, coloured: bool, text: &mut [u8], used: usize) -> usize {
     let mut at = used;
     let mut before = cells::blank();
     let mut column = 0;
     while column < 40 {
-        let i = start + column;
-        let cell = cells[i];
+        let cell = found(screen.cell(row, column + 1));
         let changed = column == 0 || !are_alike(before, cell);
         at = add_cell(cell, coloured && changed, text, at);
         before = cell;
@@ -77,25 +87,25 @@ fn frame(row: u8) -> [u8; 8] {
 }
 
 // A row as a line, within its frame.
-fn add_line(cells: [Cell; 1000], row: u8, coloured: bool, text: &mut [u8]) -> usize {
+fn add_line(screen: Screen, row: u8, coloured: bool, text: &mut [u8]) -> usize {
     if coloured {
-        let at = add_row(cells, row, true, text, 0);
+        let at = add_row(screen, row, true, text, 0);
         return add(b"\x1b[0m\n", text, at);
     }
     let start = frame(row);
     let mut at = add(&start, text, 0);
-    at = add_row(cells, row, false, text, at);
+    at = add_row(screen, row, false, text, at);
     add(b"|\n", text, at)
 }
 
 // Writes the rows, a line each: whether all is written. A row takes the most in colours, where each cell may have
 // fourteen bytes before its character.
-pub(crate) fn write_rows(cells: [Cell; 1000], coloured: bool, begun: bool) -> bool {
+pub(crate) fn write_rows(screen: Screen, coloured: bool, begun: bool) -> bool {
     let mut written = begun;
     let mut row = 0;
     while row < 25 {
         let mut text = [0u8; 800];
-        let at = add_line(cells, row, coloured, &mut text);
+        let at = add_line(screen, row, coloured, &mut text);
         written = put(&text, at, written);
         row += 1;
     }

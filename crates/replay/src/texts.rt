@@ -1,4 +1,5 @@
 // Parts of lent memory, none longer than it is, and texts put together in it, so that a caller has no length to prove.
+use crate::files::fail;
 
 // The first bytes of it, or all of them where it has fewer.
 pub(crate) fn first(s: &[u8], n: usize) -> &[u8] {
@@ -60,9 +61,9 @@ fn add_mark(mark: u8, n: u64, text: &mut [u8], used: usize) -> usize {
     }
 }
 
-// Makes a text of a template and the numbers that stand in it, in turn: how long it is.
-pub(crate) fn compose(template: &[u8], numbers: &[u64], text: &mut [u8]) -> usize {
-    let mut used = 0;
+// Adds a template to a text, and the numbers that stand in it, in turn.
+pub(crate) fn compose(template: &[u8], numbers: &[u64], text: &mut [u8], begun: usize) -> usize {
+    let mut used = begun;
     let mut next = 0;
     let mut i = 0;
     while i < template.len() {
@@ -99,7 +100,7 @@ pub(crate) fn put(text: &[u8], used: usize, written: bool) -> bool {
     if io::write_all(libc::STDOUT_FILENO, first(text, used)) {
         return true;
     }
-    os::fail(b"standard output");
+    fail(b"standard output");
     false
 }
 
@@ -107,6 +108,6 @@ pub(crate) fn put(text: &[u8], used: usize, written: bool) -> bool {
 // here.
 pub(crate) fn tell(template: &[u8], numbers: &[u64], written: bool) -> bool {
     let mut text = [0u8; 400];
-    let used = compose(template, numbers, &mut text);
+    let used = compose(template, numbers, &mut text, 0);
     put(&text, used, written)
 }

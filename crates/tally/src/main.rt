@@ -31,8 +31,7 @@ fn is_sent(block: &[u8; 17]) -> bool {
 
 // Writes a number and what stands after it; false where it could not be written.
 fn put(fd: i32, number: u64, after: &[u8]) -> bool {
-    io::print_decimal(fd, number);
-    io::write_all(fd, after)
+    io::print_decimal(fd, number) && io::write_all(fd, after)
 }
 
 // The counts with one more block judged, in which n bits are upset. There are not as many patterns as a u64 counts.
@@ -78,12 +77,12 @@ fn tally(block: [u8; 17], from: usize, left: u64, n: u64, counts: Counts) -> Cou
 
 // Writes the line for n upset bits; false where it could not be written.
 fn write_line(n: u64, c: Counts) -> bool {
-    put(1, n, b" ");
-    put(1, c.patterns, b" ");
-    put(1, c.clean, b" ");
-    put(1, c.back, b" ");
-    put(1, c.other, b" ");
-    put(1, c.refused, b"\n")
+    put(1, n, b" ")
+        && put(1, c.patterns, b" ")
+        && put(1, c.clean, b" ")
+        && put(1, c.back, b" ")
+        && put(1, c.other, b" ")
+        && put(1, c.refused, b"\n")
 }
 
 // Up to how many upset bits the argument asks for; 0 where it is wrong.
@@ -112,9 +111,9 @@ fn main() {
         io::write_all(2, b"usage: tally [1 | 2 | 3 | 4]\n");
         return;
     }
-    io::write_all(1, b"upset patterns clean back other refused\n");
+    let mut written = io::write_all(1, b"upset patterns clean back other refused\n");
     let mut n = 0;
-    while n < most {
+    while n < most && written {
         n += 1;
         let none = Counts {
             patterns: 0,
@@ -123,9 +122,9 @@ fn main() {
             other: 0,
             refused: 0,
         };
-        if !write_line(n, tally([0u8; 17], 0, n, n, none)) {
-            os::fail(b"standard output");
-            return;
-        }
+        written = write_line(n, tally([0u8; 17], 0, n, n, none));
+    }
+    if !written {
+        os::fail(b"tally: standard output");
     }
 }

@@ -5,10 +5,10 @@ use Rattle.tally.proofs.main.Statement.{statement}
 use Rattle.tally.proofs.main.Tie as tie
 
 abbrev Inv-loop : tie.InvT-loop
-Inv-loop most n₀ t6 n = Unit {0}
+Inv-loop most written₀ n₀ t7 written n = Unit {0}
 
 abbrev μ-loop : tie.MeasureT-loop
-μ-loop most n₀ t6 n = most - n
+μ-loop most written₀ n₀ t7 written n = most - n
 
 wanted-requires : tie.Need-wanted-requires Inv-loop μ-loop
 wanted-requires c κs = search needs
@@ -40,6 +40,12 @@ tally-requires c κs = search needs
 write-line-requires : tie.Need-write-line-requires Inv-loop μ-loop
 write-line-requires c κs = search needs
 
+loop-less : tie.Need-loop-less Inv-loop μ-loop
+loop-less c = search needs
+
+loop-again : tie.Need-loop-again Inv-loop μ-loop
+loop-again c = search needs
+
 slice-aggregate-fail : tie.Need-slice-aggregate-fail Inv-loop μ-loop
 slice-aggregate-fail c = search needs
 
@@ -48,12 +54,6 @@ fail-requires c κs = search needs
 
 returns-2 : tie.Need-returns-2 Inv-loop μ-loop
 returns-2 c = search needs
-
-loop-less : tie.Need-loop-less Inv-loop μ-loop
-loop-less c = search needs
-
-loop-again : tie.Need-loop-again Inv-loop μ-loop
-loop-again c = search needs
 
 returns-3 : tie.Need-returns-3 Inv-loop μ-loop
 returns-3 c = search needs
@@ -74,9 +74,9 @@ main-spec =
     add-n
     tally-requires
     write-line-requires
+    loop-less
+    loop-again
     slice-aggregate-fail
     fail-requires
     returns-2
-    loop-less
-    loop-again
     returns-3)

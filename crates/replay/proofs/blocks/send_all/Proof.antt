@@ -6,14 +6,13 @@ use Rattle.replay.proofs.blocks.send_all.Statement.{statement}
 use Rattle.replay.proofs.blocks.send_all.Tie as tie
 
 abbrev Inv-loop : tie.InvT-loop
-Inv-loop fd name portion₀ read₀ good₀ filled₀ turns₀ portion read good filled turns =
-    length portion ≡ 3840
+Inv-loop fd name whole portion₀ seen₀ good₀ turns₀ portion seen good turns = length portion ≡ 15360
 
 abbrev μ-loop : tie.MeasureT-loop
-μ-loop fd name portion₀ read₀ good₀ filled₀ turns₀ portion read good filled turns = turns
+μ-loop fd name whole portion₀ seen₀ good₀ turns₀ portion seen good turns = turns
 
-unread-requires : tie.Need-unread-requires Inv-loop μ-loop
-unread-requires c κs = search needs
+nothing-requires : tie.Need-nothing-requires Inv-loop μ-loop
+nothing-requires c κs = search needs
 
 loop-holds : tie.Need-loop-holds Inv-loop μ-loop
 loop-holds c = search needs
@@ -30,14 +29,17 @@ slice-aggregate-first c = search needs
 first-requires : tie.Need-first-requires Inv-loop μ-loop
 first-requires c κs = search needs
 
+more-requires : tie.Need-more-requires Inv-loop μ-loop
+more-requires c κs = search needs
+
+can-follow-requires : tie.Need-can-follow-requires Inv-loop μ-loop
+can-follow-requires c κs = search needs
+
 send-part-requires : tie.Need-send-part-requires Inv-loop μ-loop
 send-part-requires c κs = search needs
 
 show-progress-requires : tie.Need-show-progress-requires Inv-loop μ-loop
 show-progress-requires c κs = search needs
-
-grown-requires : tie.Need-grown-requires Inv-loop μ-loop
-grown-requires c κs = search needs
 
 sub-turns : tie.Need-sub-turns Inv-loop μ-loop
 sub-turns c = search needs
@@ -63,15 +65,16 @@ send-all-spec =
     (tie.spec
     Inv-loop
     μ-loop
-    unread-requires
+    nothing-requires
     loop-holds
     slice-aggregate-fill
     fill-requires
     slice-aggregate-first
     first-requires
+    more-requires
+    can-follow-requires
     send-part-requires
     show-progress-requires
-    grown-requires
     sub-turns
     loop-less
     loop-again

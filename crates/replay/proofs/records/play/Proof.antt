@@ -39,14 +39,14 @@ slice-aggregate-first c = search needs
 first-requires : tie.Need-first-requires Inv-loop μ-loop
 first-requires c κs = search needs
 
-enter-all-requires : tie.Need-enter-all-requires Inv-loop μ-loop
-enter-all-requires c κs = search needs
-
 show-progress-requires : tie.Need-show-progress-requires Inv-loop μ-loop
 show-progress-requires c κs = search needs
 
 hear-requires : tie.Need-hear-requires Inv-loop μ-loop
 hear-requires c κs = search needs
+
+enter-all-requires : tie.Need-enter-all-requires Inv-loop μ-loop
+enter-all-requires c κs = search needs
 
 sub-turns : tie.Need-sub-turns Inv-loop μ-loop
 sub-turns c = search needs
@@ -81,9 +81,9 @@ play-spec =
     fill-requires
     slice-aggregate-first
     first-requires
-    enter-all-requires
     show-progress-requires
     hear-requires
+    enter-all-requires
     sub-turns
     loop-less
     loop-again

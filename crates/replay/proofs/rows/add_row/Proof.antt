@@ -7,20 +7,11 @@ use Rattle.replay.proofs.rows.add_row.Statement.{statement}
 use Rattle.replay.proofs.rows.add_row.Tie as tie
 
 abbrev Inv-loop : tie.InvT-loop
-Inv-loop row coloured text₀ used cells start at₀ before₀ column₀ text at before column =
-    (column ≤ 40) × (length cells ≡ 1000) × (length text ≡ length text₀)
+Inv-loop screen row coloured text₀ used at₀ before₀ column₀ text at before column =
+    (column ≤ 40) × (length text ≡ length text₀)
 
 abbrev μ-loop : tie.MeasureT-loop
-μ-loop row coloured text₀ used cells start at₀ before₀ column₀ text at before column = 40 - column
-
-returns : tie.Need-returns Inv-loop μ-loop
-returns c = search needs
-
-cast-start : tie.Need-cast-start Inv-loop μ-loop
-cast-start c = search needs
-
-mul-start : tie.Need-mul-start Inv-loop μ-loop
-mul-start c = search needs
+μ-loop screen row coloured text₀ used at₀ before₀ column₀ text at before column = 40 - column
 
 blank-requires : tie.Need-blank-requires Inv-loop μ-loop
 blank-requires c κs = search needs
@@ -28,14 +19,14 @@ blank-requires c κs = search needs
 loop-holds : tie.Need-loop-holds Inv-loop μ-loop
 loop-holds c = search needs
 
-add-i : tie.Need-add-i Inv-loop μ-loop
-add-i c = search needs
+add-cell : tie.Need-add-cell Inv-loop μ-loop
+add-cell c = search needs
 
-mul-cell : tie.Need-mul-cell Inv-loop μ-loop
-mul-cell c = search needs
+cell-requires : tie.Need-cell-requires Inv-loop μ-loop
+cell-requires c κs = search needs
 
-array-copy-out-cell : tie.Need-array-copy-out-cell Inv-loop μ-loop
-array-copy-out-cell c = search needs
+found-requires : tie.Need-found-requires Inv-loop μ-loop
+found-requires c κs = search needs
 
 are-alike-requires : tie.Need-are-alike-requires Inv-loop μ-loop
 are-alike-requires c κs = search needs
@@ -55,8 +46,8 @@ loop-again c = search needs
 same-length : tie.Need-same-length Inv-loop μ-loop
 same-length c = search needs
 
-returns-2 : tie.Need-returns-2 Inv-loop μ-loop
-returns-2 c = search needs
+returns : tie.Need-returns Inv-loop μ-loop
+returns c = search needs
 
 pub add-row-spec : {M : Type 1} → statement M
 add-row-spec =
@@ -64,18 +55,15 @@ add-row-spec =
     (tie.spec
     Inv-loop
     μ-loop
-    returns
-    cast-start
-    mul-start
     blank-requires
     loop-holds
-    add-i
-    mul-cell
-    array-copy-out-cell
+    add-cell
+    cell-requires
+    found-requires
     are-alike-requires
     add-cell-requires
     add-column
     loop-less
     loop-again
     same-length
-    returns-2)
+    returns)

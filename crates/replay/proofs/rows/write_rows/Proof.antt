@@ -5,10 +5,10 @@ use Rattle.replay.proofs.rows.write_rows.Statement.{statement}
 use Rattle.replay.proofs.rows.write_rows.Tie as tie
 
 abbrev Inv-loop : tie.InvT-loop
-Inv-loop cells coloured begun written₀ row₀ written row = row ≤ 25
+Inv-loop screen coloured begun written₀ row₀ written row = row ≤ 25
 
 abbrev μ-loop : tie.MeasureT-loop
-μ-loop cells coloured begun written₀ row₀ written row = 25 - row
+μ-loop screen coloured begun written₀ row₀ written row = 25 - row
 
 loop-holds : tie.Need-loop-holds Inv-loop μ-loop
 loop-holds c = search needs

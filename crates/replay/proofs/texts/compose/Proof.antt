@@ -7,11 +7,11 @@ use Rattle.replay.proofs.texts.compose.Statement.{statement}
 use Rattle.replay.proofs.texts.compose.Tie as tie
 
 abbrev Inv-loop : tie.InvT-loop
-Inv-loop template numbers text₀ used₀ next₀ i₀ text used next i =
+Inv-loop template numbers text₀ begun used₀ next₀ i₀ text used next i =
     (i ≤ length template) × (length text ≡ length text₀)
 
 abbrev μ-loop : tie.MeasureT-loop
-μ-loop template numbers text₀ used₀ next₀ i₀ text used next i = length template - i
+μ-loop template numbers text₀ begun used₀ next₀ i₀ text used next i = length template - i
 
 loop-holds : tie.Need-loop-holds Inv-loop μ-loop
 loop-holds c = search needs
