@@ -2,9 +2,9 @@
 -- nothing.
 use mathlib.Core.Path.{_≡_, refl, ap, _∙_}
 use mathlib.Core.List.{List, [], _∷_, map}
-use Prim.Native.Nat.{ℕ}
+use Prim.Native.Nat.{ℕ, zero, suc}
 use native.Mathlib.Omega.{arith}
-use lib.ListN.{length}
+use lib.ListN.{replicate}
 use Rattle.values.specs.Large.{Values, firstLarge}
 use Rattle.values.proofs.Found.{all-small}
 use Rattle.division.specs.Division.{lowBits, bits, reduce, divide}
@@ -54,10 +54,18 @@ small : Values page
 unfolding firstLarge
 small = all-small page (omega arith)
 
-no-esc : AllProper (map alone page)
-no-esc = (λ e. omega (arith, e), (λ e. omega (arith, e), (λ e. omega (arith, e), (λ e. omega (arith, e), (λ e. omega (arith, e), (λ e. omega (arith, e), (λ e. omega (arith, e), (λ e. omega (arith, e), (λ e. omega (arith, e), (λ e. omega (arith, e), (λ e. omega (arith, e), (λ e. omega (arith, e), (λ e. omega (arith, e), (λ e. omega (arith, e), (λ e. omega (arith, e), tt)))))))))))))))
+nulls-alone : (n : ℕ) → AllProper (map alone (replicate n 0))
+nulls-alone zero = tt
+nulls-alone (suc n) = (λ e. omega (arith, e), nulls-alone n)
 
-pub example : (run freshBoard (map front heard) .screen .cells ≡ shown) × (requests freshBoard (map front heard) ≡ wanted)
+no-esc : AllProper (map alone page)
+no-esc = (
+  λ e. omega (arith, e),
+  (λ e. omega (arith, e), (λ e. omega (arith, e), (λ e. omega (arith, e), nulls-alone 11))),
+)
+
+pub example : (run freshBoard (map front heard) .screen .cells ≡ shown)
+    × (requests freshBoard (map front heard) ≡ wanted)
 example =
     let p : Phrased page = record { phrases = map alone page; rest = Free; proper = no-esc; whole = refl } in
     let e = shows freshBoard fresh-in refl heard page wanted (on-the-line .0) (on-the-line .1) small p

@@ -34,7 +34,9 @@ each-byte (x ∷ bs) = ap (λ (es : List Event). front (byte x) ∷ es) (each-by
 -- switching on asks nothing
 on-asks : (b : Board) → InBoard b → request (switchedOn b) ≡ []
 unfolding following
-on-asks b i = simp (tested b i) (ap (λ (s : Stepped). take (s .asked) (s .request)) (on-afresh (b .receiver) (i .receiver)))
+on-asks b i =
+    simp (tested b i)
+    (ap (λ (s : Stepped). take (s .asked) (s .request)) (on-afresh (b .receiver) (i .receiver)))
 
 pub piece-shown : (vs bs qs : List ℕ) → Values vs → Sending 0 (madeOf vs) bs qs
     → (b : Board) → InBoard b → unfinished (b .links) modem ≡ Free
