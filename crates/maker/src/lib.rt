@@ -3,7 +3,7 @@
 // `make` writes the block of 1 to 15 values into the first seventeen bytes of a lent output, and `values` gives the
 // values of a block. specs/Making says what `make` tells and leaves, for any values and any output. proofs/Blocks shows
 // that what it writes is valid and carries the values, and that every valid block of bytes is what it writes for that
-// block's values.
+// block's values; proofs/Left what it tells, case by case, and that the block is then what stands in the output.
 ghost use Prim.Native.Nat.{_≤_};
 ghost use mathlib.Core.Path.{_≡_};
 ghost use mathlib.Core.List.{_++_};

@@ -24,28 +24,6 @@ use Rattle.parity.proofs.Parities.{seven}
 use Rattle.validity.specs.Block.{codeBits, remainder}
 use Rattle.validity.specs.Units.{unit}
 
--- ---- the row of code bits
-
-pub code-digits : (B : List ℕ) → Digits (codeBits B)
-unfolding codeBits
-code-digits B = append-digits (bits-digits (take 15 B)) (reverse-digits (low-digits 7 (getD B 15 0)))
-
-pub code-length : (B : List ℕ) → length B ≡ 17 → length (codeBits B) ≡ 127
-unfolding codeBits lowBits
-code-length B e =
-    let l : length (take 15 B) ≡ 15 = length-take-le 15 B (omega arith) in
-    length-append (bits (take 15 B)) (reverse (lowBits 7 (getD B 15 0)))
-    ∙ ap (λ (n : ℕ). n + 7) (bits-length (take 15 B) ∙ ap (λ (n : ℕ). n * 8) l)
-
-pub remainder-lt : (B : List ℕ) → remainder B < 128
-unfolding remainder
-remainder-lt B = divide-lt (code-digits B) 0 (zero-lt-suc 127)
-
--- the remainder is zero exactly where the generator divides
-pub divisible : (B : List ℕ) → remainder B ≡ 0 ↔ GeneratorDivides (codeBits B)
-unfolding remainder
-divisible B = nothing-left (code-digits B)
-
 -- ---- which power each bit stands for: place k alone spells x^(126 - k), and in byte 16 weight 2^i spells x^i
 
 stands-for : ℕ → ℕ
@@ -74,6 +52,28 @@ power-of-check i h =
     spells (120 + i) (omega (arith, h))
     ∙ ap (λ (t : Bool). 2 ^ cond t (126 - (120 + i)) (120 + i - 120)) (le-ltb (120 + i) 120 (omega arith))
     ∙ ap (λ (n : ℕ). 2 ^ n) e
+
+-- ---- the row of code bits
+
+pub code-digits : (B : List ℕ) → Digits (codeBits B)
+unfolding codeBits
+code-digits B = append-digits (bits-digits (take 15 B)) (reverse-digits (low-digits 7 (getD B 15 0)))
+
+pub code-length : (B : List ℕ) → length B ≡ 17 → length (codeBits B) ≡ 127
+unfolding codeBits lowBits
+code-length B e =
+    let l : length (take 15 B) ≡ 15 = length-take-le 15 B (omega arith) in
+    length-append (bits (take 15 B)) (reverse (lowBits 7 (getD B 15 0)))
+    ∙ ap (λ (n : ℕ). n + 7) (bits-length (take 15 B) ∙ ap (λ (n : ℕ). n * 8) l)
+
+pub remainder-lt : (B : List ℕ) → remainder B < 128
+unfolding remainder
+remainder-lt B = divide-lt (code-digits B) 0 (zero-lt-suc 127)
+
+-- the remainder is zero exactly where the generator divides
+pub divisible : (B : List ℕ) → remainder B ≡ 0 ↔ GeneratorDivides (codeBits B)
+unfolding remainder
+divisible B = nothing-left (code-digits B)
 
 -- ---- the remainder of a sum
 
