@@ -22,23 +22,30 @@ abbrev after : Pen → List ℕ → Pen
 after p [] = p
 after p (b ∷ bs) = after (penAfter p b) bs
 
--- A, CON and RS: row 1, column 1, with a last character and the cursor shown
+-- A, CON, US 4/7 4/8, ESC 4/4, US 4/0 4/1, RS: row 1, column 1 and start attributes, with a last character, the cursor
+-- shown, and row 7, column 8 and ink 4 kept
 abbrev ready : List ℕ
-ready = 65 ∷ 17 ∷ 30 ∷ []
+ready = 65 ∷ 17 ∷ 31 ∷ 71 ∷ 72 ∷ 27 ∷ 68 ∷ 31 ∷ 64 ∷ 65 ∷ 30 ∷ []
 
--- such a pen moved, and nothing else; and one whose attributes have changed
-abbrev moved : Place → Pen
-moved x = pen x start (at 1 1) start (Character 0 65) Free true
+abbrev held : Place → Attributes → Pen
+held x a = pen x a (at 7 8) (attributes 0 4 0 Nothing false false) (Character 0 65) Free true
 
-abbrev changed : Attributes → Pen
-changed a = pen (at 1 1) a (at 1 1) start (Character 0 65) Free true
-
--- ESC 4/1, ESC 4/8, ESC 5/2, ESC 5/D: ink 1, flash, ground 2 waiting, inverse
+-- ESC 4/1, ESC 4/8, ESC 5/2, ESC 5/D: ink 1, flash, ground 2 waiting, inverse; and SO after them
 abbrev coloured : List ℕ
 coloured = 27 ∷ 65 ∷ 27 ∷ 72 ∷ 27 ∷ 82 ∷ 27 ∷ 93 ∷ []
 
 abbrev colours : Attributes
 colours = attributes 0 1 0 (Ground 2) true true
+
+abbrev mosaics : List ℕ
+mosaics = coloured ++ (14 ∷ [])
+
+abbrev inMosaics : Attributes
+inMosaics = attributes 1 1 0 (Ground 2) true false
+
+-- in row 0, entered from row 1, column 1
+abbrev inRow0 : ℕ → Attributes → Pen
+inRow0 c a = pen (at 0 c) a (at 1 1) start (Character 0 65) Free true
 
 -- US 4/5 4/6: row 5, column 6
 abbrev us56 : List ℕ
@@ -53,59 +60,65 @@ then vs p = (ready ++ vs, p)
 
 abbrev worked : List Card
 worked =
+    -- a fresh pen
+    ([], pen (at 1 1) start (at 1 1) start Never Free false)
+    ∷ then [] (held (at 1 1) start)
     -- BS, HT, VT, LF and CR from row 5, column 6
-    then (us56 ++ (8 ∷ [])) (moved (at 5 5))
-    ∷ then (us56 ++ (9 ∷ [])) (moved (at 5 7))
-    ∷ then (us56 ++ (11 ∷ [])) (moved (at 4 6))
-    ∷ then (us56 ++ (10 ∷ [])) (moved (at 6 6))
-    ∷ then (us56 ++ (13 ∷ [])) (moved (at 5 1))
+    ∷ then (us56 ++ (mosaics ++ (8 ∷ []))) (held (at 5 5) inMosaics)
+    ∷ then (us56 ++ (mosaics ++ (9 ∷ []))) (held (at 5 7) inMosaics)
+    ∷ then (us56 ++ (mosaics ++ (11 ∷ []))) (held (at 4 6) inMosaics)
+    ∷ then (us56 ++ (mosaics ++ (10 ∷ []))) (held (at 6 6) inMosaics)
+    ∷ then (us56 ++ (mosaics ++ (13 ∷ []))) (held (at 5 1) inMosaics)
     -- BS and VT from row 1, column 1; HT and LF from row 24, column 40
-    ∷ then (8 ∷ []) (moved (at 24 40))
-    ∷ then (11 ∷ []) (moved (at 24 1))
-    ∷ then (8 ∷ 9 ∷ []) (moved (at 1 1))
-    ∷ then (8 ∷ 10 ∷ []) (moved (at 1 40))
-    -- row 0: BS and VT at column 1, HT and a character at column 40; LF leads back to row 1, column 1
-    ∷ then (31 ∷ 64 ∷ 65 ∷ 8 ∷ 11 ∷ []) (moved (at 0 1))
-    ∷ then (31 ∷ 64 ∷ 104 ∷ 9 ∷ 65 ∷ []) (moved (at 0 40))
-    ∷ then (31 ∷ 64 ∷ 104 ∷ 10 ∷ []) (moved (at 1 1))
-    -- a fresh pen; CON, COFF, CON
-    ∷ ([], pen (at 1 1) start (at 1 1) start Never Free false)
-    ∷ (17 ∷ [], pen (at 1 1) start (at 1 1) start Never Free true)
-    ∷ (17 ∷ 20 ∷ [], pen (at 1 1) start (at 1 1) start Never Free false)
+    ∷ then (mosaics ++ (8 ∷ [])) (held (at 24 40) inMosaics)
+    ∷ then (mosaics ++ (11 ∷ [])) (held (at 24 1) inMosaics)
+    ∷ then (mosaics ++ (8 ∷ 9 ∷ [])) (held (at 1 1) inMosaics)
+    ∷ then (mosaics ++ (8 ∷ 10 ∷ [])) (held (at 1 40) inMosaics)
+    -- row 0: BS and VT at column 1; HT, CR, and a character at column 40; LF leads back to row 1, column 1
+    ∷ then (31 ∷ 64 ∷ 65 ∷ mosaics ++ (8 ∷ 11 ∷ [])) (inRow0 1 inMosaics)
+    ∷ then (31 ∷ 64 ∷ 104 ∷ mosaics ++ (9 ∷ [])) (inRow0 40 inMosaics)
+    ∷ then (31 ∷ 64 ∷ 104 ∷ mosaics ++ (13 ∷ [])) (inRow0 1 inMosaics)
+    ∷ then (31 ∷ 64 ∷ 104 ∷ 65 ∷ []) (inRow0 40 start)
+    ∷ then (31 ∷ 64 ∷ 104 ∷ mosaics ++ (10 ∷ [])) (pen (at 1 1) start (at 1 1) start (Character 0 65) Free true)
+    -- COFF; COFF and CON
+    ∷ then (mosaics ++ (20 ∷ []))
+    (pen (at 1 1) inMosaics (at 7 8) (attributes 0 4 0 Nothing false false) (Character 0 65) Free false)
+    ∷ then (mosaics ++ (20 ∷ 17 ∷ [])) (held (at 1 1) inMosaics)
     -- ESC pairs; ESC 4/9 and ESC 5/C; ESC 5/8 and ESC 3/1 do nothing
-    ∷ then coloured (changed colours)
-    ∷ then (coloured ++ (27 ∷ 73 ∷ 27 ∷ 92 ∷ [])) (changed (attributes 0 1 0 (Ground 2) false false))
-    ∷ then (coloured ++ (27 ∷ 88 ∷ 27 ∷ 49 ∷ [])) (changed colours)
+    ∷ then coloured (held (at 1 1) colours)
+    ∷ then (coloured ++ (27 ∷ 73 ∷ 27 ∷ 92 ∷ [])) (held (at 1 1) (attributes 0 1 0 (Ground 2) false false))
+    ∷ then (coloured ++ (27 ∷ 88 ∷ 27 ∷ 49 ∷ [])) (held (at 1 1) colours)
     -- SO; SO and ESC 5/D; SI; SO and SI
-    ∷ then (coloured ++ (14 ∷ [])) (changed (attributes 1 1 0 (Ground 2) true false))
-    ∷ then (14 ∷ 27 ∷ 93 ∷ []) (changed (attributes 1 7 0 Nothing false false))
-    ∷ then (coloured ++ (15 ∷ [])) (changed colours)
-    ∷ then (coloured ++ (14 ∷ 15 ∷ [])) (changed (attributes 0 1 0 (Ground 2) true false))
+    ∷ then mosaics (held (at 1 1) inMosaics)
+    ∷ then (mosaics ++ (27 ∷ 93 ∷ [])) (held (at 1 1) inMosaics)
+    ∷ then (coloured ++ (15 ∷ [])) (held (at 1 1) colours)
+    ∷ then (mosaics ++ (15 ∷ [])) (held (at 1 1) (attributes 0 1 0 (Ground 2) true false))
     -- FF, RS and a good US
-    ∷ then (coloured ++ (9 ∷ 12 ∷ [])) (moved (at 1 1))
-    ∷ then (coloured ++ (9 ∷ 30 ∷ [])) (moved (at 1 1))
-    ∷ then (coloured ++ us56) (moved (at 5 6))
+    ∷ then (mosaics ++ (9 ∷ 12 ∷ [])) (held (at 1 1) start)
+    ∷ then (mosaics ++ (9 ∷ 30 ∷ [])) (held (at 1 1) start)
+    ∷ then (mosaics ++ us56) (held (at 5 6) start)
     -- a bad US: row 25, and column 41
-    ∷ then (us56 ++ (coloured ++ (31 ∷ 89 ∷ 65 ∷ []))) (pen (at 5 6) colours (at 1 1) start (Character 0 65) Free true)
-    ∷ then (us56 ++ (coloured ++ (31 ∷ 65 ∷ 105 ∷ []))) (pen (at 5 6) colours (at 1 1) start (Character 0 65) Free true)
+    ∷ then (us56 ++ (mosaics ++ (31 ∷ 89 ∷ 65 ∷ []))) (held (at 5 6) inMosaics)
+    ∷ then (us56 ++ (mosaics ++ (31 ∷ 65 ∷ 105 ∷ []))) (held (at 5 6) inMosaics)
     -- US into row 0 from row 5 and ESC 4/3; another US within row 0, and LF; LF, and RS
-    ∷ then (us56 ++ (coloured ++ (31 ∷ 64 ∷ 65 ∷ 27 ∷ 67 ∷ [])))
-    (pen (at 0 1) (attributes 0 3 0 Nothing false false) (at 5 6) colours (Character 0 65) Free true)
-    ∷ then (us56 ++ (coloured ++ (31 ∷ 64 ∷ 65 ∷ 27 ∷ 67 ∷ 31 ∷ 64 ∷ 66 ∷ 10 ∷ [])))
-    (pen (at 5 6) colours (at 5 6) colours (Character 0 65) Free true)
-    ∷ then (us56 ++ (coloured ++ (31 ∷ 64 ∷ 65 ∷ 10 ∷ 30 ∷ [])))
-    (pen (at 1 1) start (at 5 6) colours (Character 0 65) Free true)
+    ∷ then (us56 ++ (mosaics ++ (31 ∷ 64 ∷ 65 ∷ 27 ∷ 67 ∷ [])))
+    (pen (at 0 1) (attributes 0 3 0 Nothing false false) (at 5 6) inMosaics (Character 0 65) Free true)
+    ∷ then (us56 ++ (mosaics ++ (31 ∷ 64 ∷ 65 ∷ 27 ∷ 67 ∷ 31 ∷ 64 ∷ 66 ∷ 10 ∷ [])))
+    (pen (at 5 6) inMosaics (at 5 6) inMosaics (Character 0 65) Free true)
+    ∷ then (us56 ++ (mosaics ++ (31 ∷ 64 ∷ 65 ∷ 10 ∷ 30 ∷ [])))
+    (pen (at 1 1) start (at 5 6) inMosaics (Character 0 65) Free true)
     -- REP 4/3; SS2 3/0, and REP 4/2; REP with no last character
-    ∷ then (18 ∷ 67 ∷ []) (moved (at 1 4))
-    ∷ then (25 ∷ 48 ∷ 18 ∷ 66 ∷ []) (pen (at 1 4) start (at 1 1) start (Character 2 48) Free true)
+    ∷ then (18 ∷ 67 ∷ []) (held (at 1 4) start)
+    ∷ then (25 ∷ 48 ∷ 18 ∷ 66 ∷ [])
+    (pen (at 1 4) start (at 7 8) (attributes 0 4 0 Nothing false false) (Character 2 48) Free true)
     ∷ (18 ∷ 67 ∷ [], pen (at 1 1) start (at 1 1) start Never Free false)
-    -- ESC 5/2 and B; ESC 5/2 and a space; ESC 5/2, SO and a mosaic
-    ∷ then (27 ∷ 82 ∷ 66 ∷ [])
-    (pen (at 1 2) (attributes 0 7 0 (Ground 2) false false) (at 1 1) start (Character 0 66) Free true)
-    ∷ then (27 ∷ 82 ∷ 32 ∷ [])
-    (pen (at 1 2) (attributes 0 7 2 Nothing false false) (at 1 1) start (Character 0 32) Free true)
-    ∷ then (27 ∷ 82 ∷ 14 ∷ 65 ∷ [])
-    (pen (at 1 2) (attributes 1 7 2 Nothing false false) (at 1 1) start (Character 1 65) Free true)
+    -- ESC 5/2 and A; ESC 5/2 and a space; ESC 5/2, SO and a mosaic
+    ∷ then (27 ∷ 82 ∷ 65 ∷ []) (held (at 1 2) (attributes 0 7 0 (Ground 2) false false))
+    ∷ (27 ∷ 82 ∷ 32 ∷ [], pen (at 1 2) (attributes 0 7 2 Nothing false false) (at 1 1) start (Character 0 32) Free false)
+    ∷ (
+      27 ∷ 82 ∷ 14 ∷ 65 ∷ [],
+      pen (at 1 2) (attributes 1 7 2 Nothing false false) (at 1 1) start (Character 1 65) Free false,
+    )
     ∷ []
 
 pub worked-so : map (λ (c : Card). after freshPen (c .0)) worked ≡ map (λ (c : Card). c .1) worked

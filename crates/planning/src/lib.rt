@@ -1,8 +1,9 @@
 // What a value does to the pen, and what it asks of the cells (01, "Screen cells"): nothing, rows 1 to 24 blank, or a
 // character so many times. It never sees the thousand cells.
 //
-// specs/Obeying says what each order does to a pen, specs/Planning what a value does, specs/Grounds and specs/Reach
-// what the claims on waiting grounds and on changed cells speak of; proofs/ holds their laws.
+// specs/Obeying says what each order does to a pen, specs/Planning what a value does; specs/Grounds, Lasts, Naming and
+// Reach what the claims on grounds, on the last character, on US and on changed cells speak of; proofs/ holds their laws,
+// and in proofs/Worked values worked by hand.
 ghost use mathlib.Core.Path.{_≡_};
 ghost use Rattle.planning.specs.Planning.{plan as planFor};
 

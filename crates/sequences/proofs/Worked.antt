@@ -65,8 +65,8 @@ worked =
     -- ESC 5/B 3/F 7/F 4/0, A; ESC 5/B 7/E, A
     ∷ gives (27 ∷ 91 ∷ 63 ∷ 127 ∷ 64 ∷ 65 ∷ 27 ∷ 91 ∷ 126 ∷ 65 ∷ []) (silent 5 ++ (Write 65 ∷ silent 3 ++ (Write 65 ∷ [])))
     Free
-    -- US 4/1 6/8
-    ∷ gives (31 ∷ 65 ∷ 104 ∷ []) (Skip ∷ Skip ∷ Go 65 104 ∷ []) Free
+    -- US 4/1 6/8, and US 2/0 7/F, which names no place
+    ∷ gives (31 ∷ 65 ∷ 104 ∷ 31 ∷ 32 ∷ 127 ∷ []) (Skip ∷ Skip ∷ Go 65 104 ∷ Skip ∷ Skip ∷ Go 32 127 ∷ []) Free
     -- SEP A, A; SEP ESC, A; SEP BS, BS
     ∷ gives (19 ∷ 65 ∷ 65 ∷ 19 ∷ 27 ∷ 65 ∷ 19 ∷ 8 ∷ 8 ∷ [])
     (Skip ∷ Skip ∷ Write 65 ∷ Skip ∷ Skip ∷ Write 65 ∷ Skip ∷ Skip ∷ Left ∷ []) Free
