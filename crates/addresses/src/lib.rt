@@ -1,6 +1,7 @@
 // The place that US names (01, "Screen cells").
 //
-// specs/Addressing says which; proofs/Stays shows that it lies on the screen.
+// specs/Addressing says which; proofs/Corners writes out the corners and what lies beyond, and proofs/Stays shows that
+// the place lies on the screen.
 ghost use mathlib.Core.Path.{_≡_};
 ghost use Rattle.addresses.specs.Addressing.{addressed};
 use cursor::Place;

@@ -1,5 +1,6 @@
 // What a call on the screen answers (01, "Numbers given"): a broken state goes before a value too large. specs/Answers
-// says which answer comes of the conditions, and proofs/Given that it has the number that the paper gives them.
+// says which answer comes of the conditions, proofs/Cases writes some out, and proofs/Given shows that the answer has
+// the number that the paper gives them.
 ghost use mathlib.Core.Path.{_≡_};
 ghost use Rattle.answers.specs.Answers.{answerTo};
 

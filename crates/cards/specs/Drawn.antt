@@ -1,5 +1,6 @@
--- Words for the cards of the screen: codes, cells and pens written out (01, "Screen cells"). Of the screen's crates only
--- the types are taken, so that a card says what 01 says, whatever a definition there would make of it. Assumes nothing.
+-- Words for the cards of the screen: codes, cells and pens written out (01, "Screen cells"). Of the screen's crates
+-- only the types are taken, so that a card says what 01 says, whatever a definition there would make of it. Assumes
+-- nothing.
 use mathlib.Core.Bool.{true, false}
 use mathlib.Core.List.{List, [], _∷_}
 use Prim.Native.Nat.{ℕ, zero, suc, _+_, _*_}

@@ -152,8 +152,8 @@ backToTheStart =
 
 -- ---- FF and RS
 
--- "FF: rows 1 to 24 blank, row 0 kept; cursor to row 1, column 1; start attributes": out of row 0, with G1, ink, ground,
--- flash and a waiting ground
+-- "FF: rows 1 to 24 blank, row 0 kept; cursor to row 1, column 1; start attributes": out of row 0, with G1, ink,
+-- ground, flash and a waiting ground
 abbrev pub cleared : Card
 cleared =
     shown

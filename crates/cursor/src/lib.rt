@@ -1,7 +1,8 @@
 // The cursor's place on the screen (01, "Screen cells"). `motion` has its moves by one, and `addresses` the place that
 // US names.
 //
-// specs/Places says which places lie on the screen, and where their cells lie; proofs/Tested ties the test to it.
+// specs/Places says which places lie on the screen, and where their cells lie; proofs/Tested ties the test to it, and
+// proofs/Corners writes the corners out.
 ghost use mathlib.Core.Path.{_≡_};
 ghost use Rattle.cursor.specs.Places.{onScreen, indexOf};
 

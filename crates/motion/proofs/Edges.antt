@@ -13,14 +13,15 @@ Leads f (e ∷ es) = (f (e .0) ≡ e .1) × Leads f es
 -- BS: "left of column 1 is column 40 of the row above", "row 24 joins row 1"; "Row 0: BS at column 1 .. do nothing"
 abbrev lefts : List (Place × Place)
 lefts =
-    (at 5 9, at 5 8) ∷ (at 5 2, at 5 1) ∷ (at 2 1, at 1 40) ∷ (at 1 1, at 24 40) ∷ (at 24 40, at 24 39) ∷ (at 0 40, at 0 39)
-    ∷ (at 0 1, at 0 1) ∷ []
+    (at 5 9, at 5 8) ∷ (at 5 2, at 5 1) ∷ (at 2 1, at 1 40) ∷ (at 1 1, at 24 40) ∷ (at 24 40, at 24 39)
+    ∷ (at 0 40, at 0 39) ∷ (at 0 1, at 0 1) ∷ []
 
--- HT: "right of column 40 is column 1 of the row below", "row 24 joins row 1"; "Row 0: .. HT at column 40 .. do nothing"
+-- HT: "right of column 40 is column 1 of the row below", "row 24 joins row 1"; "Row 0: .. HT at column 40 .. do
+-- nothing"
 abbrev rights : List (Place × Place)
 rights =
-    (at 5 9, at 5 10) ∷ (at 5 39, at 5 40) ∷ (at 1 40, at 2 1) ∷ (at 24 40, at 1 1) ∷ (at 1 1, at 1 2) ∷ (at 0 39, at 0 40)
-    ∷ (at 0 40, at 0 40) ∷ []
+    (at 5 9, at 5 10) ∷ (at 5 39, at 5 40) ∷ (at 1 40, at 2 1) ∷ (at 24 40, at 1 1) ∷ (at 1 1, at 1 2)
+    ∷ (at 0 39, at 0 40) ∷ (at 0 40, at 0 40) ∷ []
 
 -- VT; "Row 0: .. VT do nothing"
 abbrev ups : List (Place × Place)

@@ -1,7 +1,8 @@
 // The cursor's moves by one in page mode (01, "Screen cells").
 //
-// Every place is taken, also one off the screen, and every move gives a place. specs/Moves says which; proofs/Stays
-// shows that no move leaves the screen, and proofs/Rows that none enters row 0 or leaves it.
+// Every place is taken, also one off the screen, and every move gives a place. specs/Moves says which; proofs/Edges
+// writes out where each leads at every edge, proofs/Stays shows that no move leaves the screen, and proofs/Rows that
+// none enters row 0 or leaves it.
 ghost use mathlib.Core.Path.{_≡_};
 ghost use Rattle.motion.specs.Moves.{rowBelow, rowAbove, leftOf, rightOf, upOf, downOf, firstOf};
 use cursor::Place;
