@@ -1,4 +1,4 @@
-pub mod Computed
+pub mod Cards
 pub mod Steps
 pub mod Ranges
 pub mod Refusals

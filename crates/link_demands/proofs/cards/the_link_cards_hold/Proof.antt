@@ -1,5 +1,5 @@
 -- The theorem is proved where its words are. Assumes nothing.
-use Rattle.links.proofs.Computed.{link-cards}
+use Rattle.links.proofs.Cards.{link-cards}
 use Rattle.link_demands.proofs.cards.the_link_cards_hold.Statement.{statement}
 use Rattle.link_demands.proofs.cards.the_link_cards_hold.Tie as tie
 
