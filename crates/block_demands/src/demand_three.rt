@@ -12,8 +12,8 @@ ghost use Rattle.reader.specs.declared.Verdict.the-variants.{Clean, Mended, Rep
 ghost use Rattle.reader.specs.Judging.{verdict, judged, left, handed, mendable};
 ghost use Rattle.reader.specs.Claims.{NoneNear, OnlyNear};
 
-// What is handed on is valid, within one mendable bit of what arrived, and the only such block; the caller gets back its
-// first fifteen bytes; a repeat is asked exactly when there is none.
+// What is handed on is valid, within one mendable bit of what arrived, and the only such block; the caller gets back
+// its first fifteen bytes; a repeat is asked exactly when there is none.
 pub fn handed_on_is_the_only_valid_block_near()
     ensures only { λ _. ⌜ ((B : List ℕ) → length B ≡ 17 → (verdict B ≡ Repeat → ⊥) → OnlyNear B (left B)) ⌝ }
     ensures part { λ _. ⌜ ((B : List ℕ) → judged B .number ≡ 0 → handed B ≡ take 15 (left B)) ⌝ }

@@ -1,8 +1,8 @@
 // The codes that pass between the hut and the sender (01, "The receiver"; 001, sections 5-3-5 and 5-3-6): a byte by
 // itself, the numbers of the blocks, the request for one, and the codes with which the sender begins again. specs/Codes
-// says what each is; proofs/Numbered shows that the numbers count modulo 16 and writes the requests out, proofs/Removed
-// that a value with parity passes as that value, and proofs/Seen that counting the synchronising codes to two is looking
-// at the last three bytes.
+// says what each is; proofs/Numbered shows that the numbers count modulo 16 and writes the requests out,
+// proofs/Removed that a value with parity passes as that value, and proofs/Seen that counting the synchronising codes
+// to two is looking at the last three bytes.
 ghost use mathlib.Core.Path.{_≡_};
 ghost use Rattle.codes.specs.Codes.{plainly, next, four as fourOf, request as requestFor, listened};
 

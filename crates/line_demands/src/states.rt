@@ -25,8 +25,9 @@ pub fn places_past_a_count_are_0()
         × (drop (obey e r .asked) (obey e r .request) ≡ replicate (2 - obey e r .asked) 0)) ⌝ }
 {}
 
-// A new receiver is off, number 0, nothing held, and in range. From a state in range every run stays in range: each call answers 0, and no value that
-// it passes on is above 127. From any other state every call answers 5, sends nothing and hands that state back.
+// A new receiver is off, number 0, nothing held, and in range. From a state in range every run stays in range: each
+// call answers 0, and no value that it passes on is above 127. From any other state every call answers 5, sends
+// nothing and hands that very state back.
 pub fn a_broken_state_is_handed_back()
     ensures { λ _. ⌜ ((r : Receiver) → inRange r ≡ false → (e : Event)
         → (obey e r .next ≡ r) × (obey e r .answer ≡ 5) × (sentBy (obey e r) ≡ nothing)) ⌝ }

@@ -53,7 +53,9 @@ module _ (vs O : List ℕ) where
 
   few-taken : makeNumber vs O ≡ 0 → length vs ≤ 15
   few-taken z =
-      ⊎-elim (λ (h : 15 < length vs). absurd (omega (arith, z, many vs O (λ (e : length vs ≡ 0). omega (arith, e, h)) h)))
+      ⊎-elim
+      (λ (h : 15 < length vs).
+      absurd (omega (arith, z, many vs O (λ (e : length vs ≡ 0). omega (arith, e, h)) h)))
       (λ (h : length vs ≤ 15). h) (apart 15 (length vs))
 
   -- "The maker writes the first 17 bytes of its output and no others"

@@ -1,5 +1,5 @@
--- The quick way to a verdict: what is asked before the bit that the remainder points to is changed. No promise speaks of
--- it. Assumes nothing.
+-- The quick way to a verdict: what is asked before the bit that the remainder points to is changed. No promise speaks
+-- of it. Assumes nothing.
 use mathlib.Core.Bool.{Bool, _&&_, not}
 use Prim.Native.Nat.{ℕ}
 use lib.Dec.{eqb}

@@ -49,6 +49,7 @@ pub data Sending : ℕ → List (List ℕ) → List ℕ → List ℕ → Type 0 
   -- some do; for the next seventeen bytes arrive near which no valid block is; whatever is on its way arrives, so long
   -- as SYN, SYN, 4/X of the awaited number stand nowhere in it; and the sender begins again with that block
   resent : {x : ℕ} {Us Ws : List (List ℕ)} {W B before noise bs qs : List ℕ} → Arrives Us before
-      → length B ≡ 17 → NoneNear B → Nowhere ((x + length Us) % 16) noise → Sending ((x + length Us) % 16) (W ∷ Ws) bs qs
+      → length B ≡ 17 → NoneNear B → Nowhere ((x + length Us) % 16) noise
+      → Sending ((x + length Us) % 16) (W ∷ Ws) bs qs
       → Sending x (Us ++ (W ∷ Ws)) (before ++ B ++ noise ++ (syn ∷ syn ∷ four ((x + length Us) % 16) ∷ bs))
       (request ((x + length Us) % 16) ++ qs)

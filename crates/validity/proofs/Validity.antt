@@ -11,8 +11,8 @@ use Rattle.division.specs.Division.{lowBits, bits, reduce, divide}
 use Rattle.parity.specs.Parity.{ones, even, allEven}
 use Rattle.validity.specs.Block.{codeBits, remainder, valid, Valid}
 
--- ---- worked blocks: W1 of 01 is valid; W5 (byte 16), W6 (byte 17), W7 (the remainder), and W1 with a byte more or less
--- are not, each for that one reason
+-- ---- worked blocks: W1 of 01 is valid; W5 (byte 16), W6 (byte 17), W7 (the remainder), and W1 with a byte more or
+-- less are not, each for that one reason
 
 pub worked :
     (valid (replicate 17 0) ≡ true) × (valid (replicate 15 0 ++ (128 ∷ 0 ∷ [])) ≡ false)

@@ -9,7 +9,10 @@ use Rattle.line_demands.proofs.states.a_broken_state_is_handed_back.Tie
 returns : tie.Need-returns
 returns c = (
   λ r f e. handed-back e r f,
-  ((new-in, new-off .0, new-off .1, new-off .2), λ r g es. (runs-keep es r g, λ e. fits e (run r es) (runs-keep es r g))),
+  (
+    (new-in, new-off .0, new-off .1, new-off .2),
+    λ r g es. (runs-keep es r g, λ e. fits e (run r es) (runs-keep es r g)),
+  ),
 )
 
 pub a-broken-state-is-handed-back-spec : {M : Type 1} → statement M
