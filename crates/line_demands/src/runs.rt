@@ -119,11 +119,11 @@ pub fn places_past_the_held_never_matter()
 
 // The line whole. Any values are cut into fifteens and made into blocks; a receiver just switched on hears them.
 // Each block hit at no bit or at one mendable bit: what passes is the values, filled up with NUL, and nothing is
-// asked. For block j, the first of which that is not so, any seventeen bytes arrive near which no valid block is: the
-// blocks before it have passed and one request has gone out, for j modulo 16, whatever arrives, until SYN, SYN, 4/j;
-// then the blocks from j on pass, so that each has passed once, and nothing more is asked. What arrives until then must
-// nowhere spell SYN, SYN, 4/j itself: a block still on its way that did would end the waiting. Lines that meet this
-// exist: the made blocks themselves, each of them valid.
+// asked. Block j the first for which other bytes arrive, seventeen near which no valid block is: the blocks before it
+// have passed and one request has gone out, for j modulo 16, whatever arrives, until SYN, SYN, 4/j; then the blocks
+// from j on pass, so that each has passed once, and nothing more is asked. What arrives until then must nowhere spell
+// SYN, SYN, 4/j itself: a block still on its way that did would end the waiting. Lines that meet this exist: the made
+// blocks themselves, each of them valid.
 pub fn the_line_comes_through_whole()
     ensures { λ _. ⌜ ((r : Receiver) → InRange r → (vs bs : List ℕ) → Values vs → Arrives (madeOf vs) bs
         → (allPassed (sent r (on ∷ map byte bs)) ≡ filled vs) × (allAsked (sent r (on ∷ map byte bs)) ≡ [])) ⌝ }
