@@ -1,5 +1,6 @@
 // The phases of the line receiver, what completes a block, and the ranges of what it counts (01, "The receiver").
-// specs/Phases says what each is; proofs/Seventeenth shows that it is the seventeenth byte which completes a block.
+// specs/Phases says what each is; proofs/Seventeenth shows that it is the seventeenth byte which completes a block, and
+// proofs/Written has the start and the ends of the ranges written out.
 ghost use mathlib.Core.Path.{_≡_};
 ghost use Rattle.phases.specs.Phases.{atStart, awaitsMore, inRange};
 
