@@ -1,3 +1,4 @@
 pub mod Outlets
 pub mod Suffices
 pub mod Refused
+pub mod Passed

@@ -50,7 +50,7 @@ held vs = take-append-seam vs (replicate (75 - length vs) 0)
 
 -- ---- bytes behind what is held, and 0 past them
 
-drop-zeros : (n k : ℕ) → drop {A = ℕ} n (replicate k 0) ≡ replicate (k - n) 0
+pub drop-zeros : (n k : ℕ) → drop {A = ℕ} n (replicate k 0) ≡ replicate (k - n) 0
 drop-zeros zero k = simp unary-clauses
 drop-zeros (suc n) zero =
     let e : 0 ≡ 0 - suc n = omega arith in ap (λ (k : ℕ). replicate {A = ℕ} k 0) e

@@ -45,7 +45,7 @@ asks-append f xs ys =
     ∙ ap allAsked (sent-append (bytes xs) (bytes ys) r)
     ∙ asked-append (sent r (bytes xs)) (sent (receiverRun r (bytes xs)) (bytes ys))
 
-behind-append : (f : Front) (xs ys : List ℕ) → behind f (xs ++ ys) ≡ behind (behind f xs) ys
+pub behind-append : (f : Front) (xs ys : List ℕ) → behind f (xs ++ ys) ≡ behind (behind f xs) ys
 behind-append f xs ys =
     let r = f .receiver in
     ap₂ (λ (x : Receiver) (l : Links). record { receiver = x; links = l })

@@ -4,3 +4,7 @@ pub mod Numbered
 pub mod Taken
 pub mod Cut
 pub mod Shown
+pub mod Gathered
+pub mod Amply
+pub mod Quiets
+pub mod Still

@@ -2,3 +2,5 @@ pub mod Pieces
 pub mod Claims
 pub mod Cuts
 pub mod Playing
+pub mod Ample
+pub mod Holding

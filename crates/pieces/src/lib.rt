@@ -9,9 +9,12 @@ ghost use Rattle.wiring.specs.declared.Module.the-variants.{Keyboard, Modem, So
 ghost use Rattle.front.specs.Fitting.{roomIn};
 ghost use Rattle.pieces.specs.Pieces.{refused, linesOf, isTaken, handed, asked, leftIn};
 
+mod ample;
+mod holding;
 mod outputs;
 mod playing;
 
+use ample::fitting;
 use board::Board;
 use front::Front;
 use front::Room;
@@ -77,7 +80,7 @@ pub fn lines(
         let receiver = board.receiver;
         let links = board.links;
         let front = Front { receiver, links };
-        if front::fits(front, piece, room) {
+        if fitting(front, piece, room) {
             return play(board, piece, keyboard, modem, socket, requests);
         }
         return refuse(board, Answer::NoRoom);

@@ -10,7 +10,7 @@ use front::Heard;
 use front::Room;
 
 // What a module gets, at a place of its output.
-fn put(out: &mut [u8], at: usize, from: Outlet)
+pub(crate) fn put(out: &mut [u8], at: usize, from: Outlet)
     requires { ⌜ at + from .count ≤ length (now out) ⌝ }
     requires { ⌜ from .count ≤ 75 ⌝ }
     ensures { λ _. ⌜ now (out .exit) ≡ paste (now (out .entry)) at (from .codes) (from .count) ⌝ }

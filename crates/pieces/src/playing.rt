@@ -3,7 +3,7 @@ ghost use mathlib.Core.Path.{_≡_};
 ghost use mathlib.Core.Bool.{true};
 ghost use Rattle.wiring.specs.declared.Module.the-variants.{Keyboard, Modem, Socket};
 ghost use Prim.Native.Nat.{_≤_};
-ghost use Rattle.feeding.specs.Feeding.{contents};
+ghost use lib.ListN.{length, take};
 ghost use Rattle.page.specs.Ranges.{InScreen};
 ghost use Rattle.screen.specs.Calls.{ran};
 ghost use Rattle.front.specs.Hearing.{toEach, asks};
@@ -12,20 +12,23 @@ ghost use Rattle.pieces.specs.Pieces.{leftIn};
 ghost use Rattle.pieces.specs.Playing.{frontOf, played};
 use crate::Answer;
 use crate::Passage;
+use crate::holding::hold_all;
 use crate::outputs::hand;
+use crate::outputs::put;
 use board::Board;
-use feeding::Outlet;
 use front::Front;
 use front::Room;
 use page::Screen;
 
-// What is sent to the screen, written there; nothing leaves it as it is, and uncopied.
-fn show(screen: Screen, sent: Outlet) -> Screen
-    requires { ⌜ sent .count ≤ 75 ⌝ }
-    ensures { λ r. ⌜ r ≡ ran «screen» (contents sent) .screen ⌝ }
+// As many values as are gathered for the screen before it is given them.
+const ROOM: usize = 4096;
+
+// What is gathered, written to the screen, whose range is tested once for all of it.
+fn show(screen: Screen, gathered: &[u8], filled: usize) -> Screen
+    requires { ⌜ filled ≤ length (now gathered) ⌝ }
+    ensures { λ r. ⌜ r ≡ ran «screen» (take filled (now (gathered .entry))) .screen ⌝ }
 {
-    let codes = sent.codes;
-    let shown = screen::run(screen, &codes[..sent.count]);
+    let shown = screen::run(screen, &gathered[..filled]);
     shown.screen
 }
 
@@ -60,6 +63,8 @@ pub(crate) fn play(
         socket: 0,
         requests: 0,
     };
+    let mut gathered = [0u8; ROOM];
+    let mut filled: usize = 0;
     let mut i: usize = 0;
     while i < piece.len() {
         let heard = front::hear(front, piece[i]);
@@ -67,11 +72,18 @@ pub(crate) fn play(
         used = hand(heard, used, keyboard, modem, socket, requests);
         let shares = heard.shares;
         let sent = shares.screen;
-        if 0 < sent.count {
-            screen = show(screen, sent);
+        if ROOM - 75 < filled {
+            screen = show(screen, &gathered, filled);
+            filled = 0;
         }
+        put(&mut gathered, filled, sent);
+        filled += sent.count;
         i += 1;
+        let held = hold_all(front, &piece[i..]);
+        front = held.front;
+        i += held.count;
     }
+    let screen = show(screen, &gathered, filled);
     let receiver = front.receiver;
     let links = front.links;
     Passage {

@@ -8,7 +8,7 @@ use pieces::Passage;
 
 // As many bytes as an output may need for a piece: the blocks that end in it carry at most fifteen values more than it
 // has bytes, and no value sends more than five.
-const ROOM: usize = 5 * (4096 + 15);
+const ROOM: usize = 5 * (4096 + 16);
 
 // A board, whether it has taken every piece so far, how many bytes it has heard, and how many its links have handed
 // out.

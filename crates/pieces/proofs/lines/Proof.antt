@@ -21,12 +21,12 @@ use Rattle.pieces.proofs.lines.Tie as tie
 in-range-requires : tie.Need-in-range-requires
 in-range-requires c κs = search needs
 
-fits-requires : tie.Need-fits-requires
-fits-requires c κs = search needs
+fitting-requires : tie.Need-fitting-requires
+fitting-requires c κs = search needs
 
 -- ---- the board is in range
 
-module _ (d : tie.After-fits2) where
+module _ (d : tie.After-fitting) where
   abbrev start : tie.Start
   start = d .before .before .before .before .before .before .before .before .before .before
 
@@ -68,7 +68,7 @@ module _ (s : tie.Start) (t : Bool) (e : t ≡ false) where
 play-requires : tie.Need-play-requires
 play-requires c κs =
     let d = c .before .before .before .before .before in
-    (whole d .screen, sym (d .fits2 .ensures) ∙ c .before .before .before .before .if2 .taken)
+    (whole d .screen, sym (d .fitting .ensures) ∙ c .before .before .before .before .if2 .taken)
 
 same-length : tie.Need-same-length
 same-length c = search needs
@@ -90,7 +90,7 @@ returns c =
     let e = p .play .ensures in
     let b = start d .args .board in
     let xs = start d .args .piece .now in
-    let w : within (needed (frontOf b) xs) (room d) ≡ true = sym (d .fits2 .ensures) ∙ t .if2 .taken in
+    let w : within (needed (frontOf b) xs) (room d) ≡ true = sym (d .fitting .ensures) ∙ t .if2 .taken in
     let y : isTaken b xs (room d) ≡ true = is-taken b (whole d) xs (room d) true (range d) w in
     let out : (vs us out : List ℕ) → us ≡ vs → leftIn true vs out ≡ leftIn (isTaken b xs (room d)) us out =
     λ vs us out p. sym (ap₂ (λ (u : Bool) (ws : List ℕ). leftIn u ws out) y p) in (
@@ -111,7 +111,7 @@ returns-2 c =
     let d = c .before .before in
     let b = start d .args .board in
     let xs = start d .args .piece .now in
-    let w : within (needed (frontOf b) xs) (room d) ≡ false = sym (d .fits2 .ensures) ∙ c .before .if2 .left in
+    let w : within (needed (frontOf b) xs) (room d) ≡ false = sym (d .fitting .ensures) ∙ c .before .if2 .left in
     let t : isTaken b xs (room d) ≡ false = is-taken b (whole d) xs (room d) false (range d) w in
     (c .refuse .ensures ∙ short-is b (whole d) xs (room d) (range d) w, untouched (start d) (isTaken b xs (room d)) t)
 
@@ -132,7 +132,7 @@ lines-spec =
     tie.close
     (tie.spec
     in-range-requires
-    fits-requires
+    fitting-requires
     play-requires
     same-length
     same-length-2

@@ -1,21 +1,14 @@
 -- `pieces::playing::show` meets its contract. Assumes nothing.
 use mathlib.Core.Path.{_≡_, sym}
-use native.Mathlib.Omega.{arith}
-use lib.ListN.{length}
 use lib.Seq.{length-take-le}
 use borrow.Author.Needs.{needs}
 use Rattle.pieces.proofs.playing.show.Statement.{statement}
 use Rattle.pieces.proofs.playing.show.Tie as tie
 
-array-share-prefix-codes : tie.Need-array-share-prefix-codes
-array-share-prefix-codes c =
-    let n : length (c .before .args .sent .codes) ≡ 75 = search needs in omega arith
-
 slice-aggregate-run : tie.Need-slice-aggregate-run
 slice-aggregate-run c =
     let a = c .before .before .args in
-    let n : length (a .sent .codes) ≡ 75 = search needs in
-    sym (length-take-le (a .sent .count) (a .sent .codes) (omega arith))
+    sym (length-take-le (a .filled) (a .gathered .now) (search needs))
 
 run-requires : tie.Need-run-requires
 run-requires c κs = search needs
@@ -24,4 +17,4 @@ returns : tie.Need-returns
 returns c = simp (c .before .run .ensures)
 
 pub show-spec : {M : Type 1} → statement M
-show-spec = tie.close (tie.spec array-share-prefix-codes slice-aggregate-run run-requires returns)
+show-spec = tie.close (tie.spec slice-aggregate-run run-requires returns)
