@@ -1,2 +1,2 @@
 pub mod Feeding
-pub mod Passing
+pub mod Plain

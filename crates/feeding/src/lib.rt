@@ -3,18 +3,19 @@
 //
 // One line byte lets the receiver pass on up to fifteen values, and each sends at most five bytes to any module: so
 // seventy-five places always suffice for what a module gets. specs/Feeding says what that is; proofs/Suffices shows
-// that the places suffice.
+// that the places suffice. Most values are plain characters, which go along the links of the modem as they are: where all
+// are (plain.rt), the links are not asked for each (proofs/Passed).
 ghost use mathlib.Core.Path.{_≡_};
 ghost use Prim.Native.Nat.{_≤_, _<_};
 ghost use lib.ListN.{take};
 ghost use Rattle.sending.specs.Sending.{gets};
-ghost use mathlib.Core.Bool.{true, cond};
-ghost use mathlib.Core.List.{[]};
-ghost use Rattle.feeding.specs.Passing.{Passing};
-ghost use Rattle.feeding.specs.Feeding.{outlet};
 ghost use Rattle.feeding.specs.Feeding.{appended, sharesOf, gathered, nobody, fed, Enough};
-use hearing::Unfinished;
+
+mod plain;
+
 use links::Links;
+pub use plain::are_plain;
+use plain::pass_all;
 use sending::Bytes;
 use sending::Sent;
 
@@ -106,68 +107,6 @@ pub fn share_out(sent: Sent) -> Shares
     gather(nothing(), sent)
 }
 
-// Whether values are passed on as they are: nothing is unfinished, and none is ESC.
-fn are_plain(links: Links, values: [u8; 15], count: usize) -> bool
-    requires { ⌜ count ≤ 15 ⌝ }
-    ensures { λ r. ⌜ (r ≡ true → Passing links (take count values)) ⌝ }
-{
-    let unfinished = links.modem;
-    let Unfinished::Free = unfinished else {
-        return false;
-    };
-    if links.in_range() {
-        let mut i: usize = 0;
-        while i < count {
-            if values[i] == 27 {
-                return false;
-            }
-            if 127 < values[i] {
-                return false;
-            }
-            i += 1;
-        }
-        return true;
-    }
-    false
-}
-
-// The first values, where they are marked.
-fn outlet_of(marked: bool, values: [u8; 15], count: usize) -> Outlet
-    requires { ⌜ count ≤ 15 ⌝ }
-    ensures { λ r. ⌜ r ≡ outlet (cond marked (take count values) []) ⌝ }
-{
-    let mut codes = [0u8; 75];
-    if marked {
-        let mut i: usize = 0;
-        while i < count {
-            codes[i] = values[i];
-            i += 1;
-        }
-        return Outlet { codes, count };
-    }
-    Outlet { codes, count: 0 }
-}
-
-// Plain values, along the links of the modem.
-fn pass_all(links: Links, values: [u8; 15], count: usize) -> Fed
-    requires { ⌜ count ≤ 15 ⌝ }
-    requires { ⌜ Passing links (take count values) ⌝ }
-    ensures { λ r. ⌜ r ≡ fed links (take count values) ⌝ }
-{
-    let row = links.table.modem;
-    let screen = outlet_of(row.screen, values, count);
-    let keyboard = outlet_of(row.keyboard, values, count);
-    let modem = outlet_of(row.modem, values, count);
-    let socket = outlet_of(row.socket, values, count);
-    let shares = Shares {
-        screen,
-        keyboard,
-        modem,
-        socket,
-    };
-    Fed { links, shares }
-}
-
 // The first `passed` values, handed to the links as the modem's; there are fifteen at most. It gives no number: the
 // board's calls do, and test their board before they come here. Broken links take no value: they come back as they were,
 // and nobody gets anything. A value above 127 is left out, and those behind it are handed on.
@@ -175,7 +114,7 @@ pub fn feed(start: Links, values: [u8; 15], passed: usize) -> Fed
     ensures { λ r. ⌜ (r ≡ fed start (take passed values)) × Enough (r .shares) ⌝ }
 {
     let count = least(passed, 15);
-    if are_plain(start, values, count) {
+    if are_plain(start, values) {
         return pass_all(start, values, count);
     }
     let mut links = start;

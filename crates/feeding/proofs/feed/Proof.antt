@@ -30,11 +30,11 @@ nothing-requires : tie.Need-nothing-requires Inv-loop μ-loop
 nothing-requires c κs = tt
 
 are-plain-requires : tie.Need-are-plain-requires Inv-loop μ-loop
-are-plain-requires c κs = omega (arith, c .least .ensures)
+are-plain-requires c κs = tt
 
 pass-all-requires : tie.Need-pass-all-requires Inv-loop μ-loop
 pass-all-requires c κs =
-    (omega (arith, c .before .before .least .ensures), c .before .are-plain .ensures (c .if1 .taken))
+    (omega (arith, c .before .before .least .ensures), sym (c .before .are-plain .ensures) ∙ c .if1 .taken)
 
 returns : tie.Need-returns Inv-loop μ-loop
 unfolding fed

@@ -3,8 +3,8 @@ use lib.ListN.{take}
 use Rattle.feeding.proofs.Passed.{fed-all}
 use Rattle.feeding.specs.Feeding.{fed}
 use borrow.Author.Needs.{needs}
-use Rattle.feeding.proofs.pass_all.Statement.{statement}
-use Rattle.feeding.proofs.pass_all.Tie as tie
+use Rattle.feeding.proofs.plain.pass_all.Statement.{statement}
+use Rattle.feeding.proofs.plain.pass_all.Tie as tie
 
 -- src/lib.rt:158:9
 outlet-of-requires : tie.Need-outlet-of-requires
@@ -27,7 +27,7 @@ returns : tie.Need-returns
 unfolding fed
 returns c =
     let s = c .before .before .before .before .before in
-    let f = fed-all (s .args .links) (take (s .args .count) (s .args .values)) (s .pre .1) in
+    let f = fed-all (s .args .links) (s .args .values) (s .args .count) (s .pre .1) in
     simp (f, c .outlet-of4 .ensures, c .before .outlet-of3 .ensures, c .before .before .outlet-of2 .ensures, c .before .before .before .outlet-of .ensures)
 
 pub pass-all-spec : {M : Type 1} → statement M
