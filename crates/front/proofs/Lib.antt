@@ -1,3 +1,4 @@
 pub mod Onwards
 pub mod Rooms
 pub mod Refused
+pub mod Amply

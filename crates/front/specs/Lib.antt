@@ -1,2 +1,3 @@
 pub mod Hearing
 pub mod Fitting
+pub mod Ample

@@ -1,9 +1,10 @@
-// Whether there is room for what a piece yields: it is heard once for that alone.
+// Whether there is room for what a piece yields: surely, by the lengths alone, or as hearing it for that alone shows.
 ghost use mathlib.Core.Path.{_≡_};
 ghost use Rattle.front.specs.Fitting.{within, needed, needsOf, leftOver};
 use crate::Front;
 use crate::Heard;
 use crate::Room;
+use crate::ample::is_ample;
 use crate::hear;
 
 // What is left of the room behind a byte.
@@ -48,9 +49,8 @@ fn spend(room: Room, need: Room) -> Left
     Left::Short
 }
 
-// Whether there is room for all that the piece yields. It gives no number: a broken receiver hears nothing, so that any
-// room will do, and broken links yield nothing, so that only the receiver's requests need room.
-pub fn fits(start: Front, piece: &[u8], room: Room) -> bool
+// The piece is heard, byte by byte.
+fn fits_as_heard(start: Front, piece: &[u8], room: Room) -> bool
     ensures { λ r. ⌜ r ≡ within (needed start (now (piece .entry))) «room» ⌝ }
 {
     let mut front = start;
@@ -69,4 +69,18 @@ pub fn fits(start: Front, piece: &[u8], room: Room) -> bool
         i += 1;
     }
     true
+}
+
+// Whether there is room for all that the piece yields. It gives no number: a broken receiver hears nothing, so that any
+// room will do, and broken links yield nothing, so that only the receiver's requests need room.
+pub fn fits(start: Front, piece: &[u8], room: Room) -> bool
+    ensures { λ r. ⌜ r ≡ within (needed «start» (now (piece .entry))) «room» ⌝ }
+{
+    let receiver = start.receiver;
+    if receiver.count <= 16 {
+        if is_ample(piece.len(), room) {
+            return true;
+        }
+    }
+    fits_as_heard(start, piece, room)
 }

@@ -1,13 +1,15 @@
 // What hears the line: the receiver, and the links behind it (01, "What the board does").
 //
 // A byte goes through the receiver, and each value that this passes on is handed to the links as the modem's. A piece of
-// bytes takes room in four outputs, and can be heard for that alone. specs/Hearing says what bytes come to,
-// specs/Fitting what room that takes; proofs/Onwards shows what one byte more brings, proofs/Rooms when there is room.
+// bytes takes room in four outputs, and can be heard for that alone, where these are not so long that any bytes fit.
+// specs/Hearing says what bytes come to, specs/Fitting what room that takes, specs/Ample which is surely enough;
+// proofs/Onwards shows what one byte more brings, proofs/Rooms when there is room, and proofs/Amply that there is.
 ghost use mathlib.Core.Path.{_≡_};
 ghost use Prim.Native.Nat.{_≤_};
 ghost use Rattle.feeding.specs.Feeding.{Enough};
 ghost use Rattle.front.specs.Hearing.{heardBy};
 
+mod ample;
 mod fitting;
 
 use feeding::Shares;

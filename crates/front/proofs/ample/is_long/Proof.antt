@@ -1,18 +1,15 @@
+-- `front::ample::is_long` meets its contract. Assumes nothing.
 use mathlib.Core.Path.{_≡_, sym}
 use Prim.Native.Nat.{_/_, _-_}
 use native.Mathlib.Omega.{arith}
 use borrow.Author.Tests.{leb-true}
 use Rattle.laws.proofs.Computed.{fails}
-use Rattle.pieces.proofs.ample.is_long.Statement.{statement}
-use Rattle.pieces.proofs.ample.is_long.Tie as tie
-use Rattle.pieces.proofs.ample.is_long.Reads as reads
-use Rattle.pieces.proofs.ample.is_long.Lts as lts
+use Rattle.front.proofs.ample.is_long.Statement.{statement}
+use Rattle.front.proofs.ample.is_long.Tie as tie
 
--- src/ample.rt:16:9
 returns : tie.Need-returns
 returns c = λ e. absurd (fails (sym e) tt)
 
--- src/ample.rt:11:1
 returns-2 : tie.Need-returns-2
 returns-2 c =
     let a = c .before .args in

@@ -1,28 +1,22 @@
+-- `front::ample::is_ample` meets its contract. Assumes nothing.
 use mathlib.Core.Path.{_≡_, sym}
 use Prim.Native.Nat.{_/_}
 use native.Mathlib.Omega.{arith}
 use borrow.Author.Tests.{leb-true}
 use Rattle.laws.proofs.Computed.{fails}
 use borrow.Author.Needs.{needs}
-use Rattle.pieces.proofs.ample.is_ample.Statement.{statement}
-use Rattle.pieces.proofs.ample.is_ample.Tie as tie
-use Rattle.pieces.proofs.ample.is_ample.Reads as reads
-use Rattle.pieces.proofs.ample.is_ample.Lts as lts
-use Rattle.pieces.proofs.ample.is_long.Reads as is-long-reads
+use Rattle.front.proofs.ample.is_ample.Statement.{statement}
+use Rattle.front.proofs.ample.is_ample.Tie as tie
 
--- src/ample.rt:25:8
 is-long-requires : tie.Need-is-long-requires
 is-long-requires c κs = search needs
 
--- src/ample.rt:26:12
 is-long-requires-2 : tie.Need-is-long-requires-2
 is-long-requires-2 c κs = search needs
 
--- src/ample.rt:27:16
 is-long-requires-3 : tie.Need-is-long-requires-3
 is-long-requires-3 c κs = search needs
 
--- src/ample.rt:28:17
 returns : tie.Need-returns
 returns c =
     let two = c .before .before .before in
@@ -35,15 +29,12 @@ returns c =
       requests = omega (arith, leb-true (a .n) (a .room .requests / 2) e);
     }
 
--- src/ample.rt:22:1
 returns-2 : tie.Need-returns-2
 returns-2 c = λ e. absurd (fails (sym e) tt)
 
--- src/ample.rt:22:1
 returns-3 : tie.Need-returns-3
 returns-3 c = λ e. absurd (fails (sym e) tt)
 
--- src/ample.rt:22:1
 returns-4 : tie.Need-returns-4
 returns-4 c = λ e. absurd (fails (sym e) tt)
 

@@ -28,12 +28,12 @@ use Rattle.ears.specs.declared.Ear.the-variants.{Modem as modem}
 use Rattle.links.specs.Runs.{Call, value}
 use Rattle.feeding.specs.Feeding.{fromLine, got}
 use Rattle.feeding.proofs.Suffices.{few-got}
 use Rattle.front.specs.declared.Front.{Front}
 use Rattle.front.specs.declared.Room.{Room}
 use Rattle.front.specs.Hearing.{bytes, calls, toEach, asks}
 use Rattle.front.specs.Fitting.{within, needed}
 use Rattle.front.proofs.Rooms.{passes}
-use Rattle.pieces.specs.Ample.{Ample}
+use Rattle.front.specs.Ample.{Ample}
 
 -- ---- what is held may still bring values
 
