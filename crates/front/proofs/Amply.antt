@@ -2,9 +2,9 @@
 use mathlib.Core.Path.{_≡_, refl, sym, ap, _∙_}
 use mathlib.Core.Bool.{Bool, true, false}
 use mathlib.Core.List.{List, [], _∷_, _++_}
-use Prim.Native.Nat.{ℕ, zero, suc, _+_, _*_, _%_, _≤_, zero-le}
+use Prim.Native.Nat.{ℕ, _+_, _*_, _≤_, zero-le}
 use native.Mathlib.Omega.{arith}
-use lib.ListN.{length, take, length-append, length-map}
+use lib.ListN.{length, length-append, length-map}
 use borrow.Author.Tests.{ltb-false}
 use Rattle.laws.proofs.Computed.{chosen}
 use Rattle.wiring.specs.declared.Module.{Module}
@@ -23,7 +23,8 @@ use Rattle.receiver.specs.declared.Stepped.{Stepped}
 use Rattle.receiver.specs.States.{inRange}
 use Rattle.receiver.specs.Calls.{whole, accepts, judgedAs, listening, byPhase, stepped, padded}
 use Rattle.receiver.specs.Runs.{sentBy, sent, allAsked}
-use Rattle.receiver.proofs.Asked.{asked-counted}
+use Rattle.receiver.proofs.Asked.{asked-counted, fifteen}
+use Rattle.receiver.proofs.Fifteens.{take-short}
 use Rattle.ears.specs.declared.Ear.the-variants.{Modem as modem}
 use Rattle.links.specs.Runs.{Call, value}
 use Rattle.feeding.specs.Feeding.{fromLine, got}
@@ -57,20 +58,11 @@ heard-none : (l : Listened) (r : Receiver) → due (listening l r) ≡ 0
 heard-none (Seen n) r = refl
 heard-none Resumed r = refl
 
--- taken out of an array of fifteen, there are at most as many as it is said to have
-at-most : (n : ℕ) (vs : List ℕ) → length (take n vs) ≤ n
-at-most zero vs = zero-le
-at-most (suc n) [] = zero-le
-at-most (suc n) (v ∷ vs) = let r = at-most n vs in omega (arith, r)
-
-fifteen : (B : List ℕ) → length (valuesOf B) ≤ 15
-fifteen B = let m = length-map (take 15 B) (λ (b : ℕ). b % 128) in omega (arith, m, at-most 15 B)
-
 judged-bounded : (v : Verdict) (r : Receiver) (vs : List ℕ) → length vs ≤ 15 → 16 ≤ due r
     → Bounded r (judgedAs v (r .number) vs)
 judged-bounded v r vs h k =
     chosen (Bounded r) (accepts v)
-    (λ a. let l = at-most (length vs) (padded 15 vs) in omega (arith, l, h, k)) (λ a. omega (arith, k))
+    (λ a. let l = take-short (length vs) (padded 15 vs) in omega (arith, l, h, k)) (λ a. omega (arith, k))
 
 phase-bounded : (p : Phase) (r : Receiver) (b : ℕ) → r .phase ≡ p → Bounded r (byPhase p r b)
 phase-bounded Off r b e = omega arith

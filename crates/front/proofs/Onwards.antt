@@ -1,6 +1,6 @@
 -- A piece heard byte by byte: what one byte more brings. Assumes nothing.
 use mathlib.Core.Path.{_≡_, refl, sym, ap, ap₂, _∙_}
-use mathlib.Core.List.{List, [], _∷_, _++_, append-assoc, append-nil}
+use mathlib.Core.List.{List, [], _∷_, _++_, map-append, append-assoc, append-nil}
 use Prim.Native.Nat.{ℕ, _+_, _<_}
 use native.Mathlib.Numerals.{add-one}
 use lib.ListN.{length, take, getD}
@@ -8,10 +8,11 @@ use lib.Seq.{take-suc}
 use Rattle.wiring.specs.declared.Module.{Module}
 use Rattle.receiver.specs.declared.Receiver.{Receiver}
 use Rattle.receiver.specs.Calls.{stepped}
-use Rattle.receiver.specs.Runs.{Event, byte, run as receiverRun, sentBy, sent, allAsked}
+use Rattle.receiver.specs.Runs.{Event, byte, run as receiverRun, sentBy, sent, allPassed, allAsked}
 use Rattle.receiver.proofs.Kept.{run-append as heard-append, sent-append, asked-append}
 use Rattle.links.specs.declared.Links.{Links}
-use Rattle.links.specs.Runs.{Call, run as linksRun}
+use Rattle.ears.specs.declared.Ear.the-variants.{Modem as modem}
+use Rattle.links.specs.Runs.{Call, value, run as linksRun}
 use Rattle.feeding.specs.Feeding.{fromLine, got, fed}
 use Rattle.feeding.proofs.Suffices.{run-append, got-append}
 use Rattle.front.specs.declared.Front.{Front}
@@ -31,6 +32,15 @@ calls-append r (x ∷ xs) ys =
     let now = fromLine (sentBy (stepped r x) .passed) in
     ap (λ (cs : List Call). now ++ cs) (calls-append (stepped r x .next) xs ys)
     ∙ sym (append-assoc now (calls (stepped r x .next) xs) (calls (receiverRun (stepped r x .next) (bytes xs)) ys))
+
+-- the values that the receiver passes on, handed to the links
+pub calls-are : (r : Receiver) (xs : List ℕ) → calls r xs ≡ fromLine (allPassed (sent r (bytes xs)))
+unfolding calls
+calls-are r [] = refl
+calls-are r (x ∷ xs) =
+    let vs = sentBy (stepped r x) .passed in
+    ap (λ (cs : List Call). fromLine vs ++ cs) (calls-are (stepped r x .next) xs)
+    ∙ sym (map-append (value modem) vs (allPassed (sent (stepped r x .next) (bytes xs))))
 
 pub each-append : (m : Module) (f : Front) (xs ys : List ℕ)
     → toEach m f (xs ++ ys) ≡ toEach m f xs ++ toEach m (behind f xs) ys

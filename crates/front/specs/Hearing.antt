@@ -1,5 +1,5 @@
 -- Line bytes heard by the receiver and the links behind it (01, "What the board does"). Assumes nothing.
-use mathlib.Core.List.{List, [], _∷_, _++_}
+use mathlib.Core.List.{List, [], _∷_, _++_, map}
 use Prim.Native.Nat.{ℕ}
 use lib.ListN.{take, replicate}
 use Rattle.wiring.specs.declared.Module.{Module}
@@ -30,8 +30,7 @@ unheard f = record { front = f; shares = nobody; request = replicate 2 0; asked 
 -- ---- many bytes
 
 abbrev pub bytes : List ℕ → List Event
-bytes [] = []
-bytes (x ∷ xs) = byte x ∷ bytes xs
+bytes xs = map byte xs
 
 -- the calls of the links that come of them
 unfoldable pub calls : Receiver → List ℕ → List Call

@@ -4,23 +4,17 @@ use mathlib.Core.List.{List, [], _∷_, _++_, append-assoc, append-nil}
 use Prim.Native.Nat.{ℕ, zero, suc, _+_, _≤_, _<_, zero-le}
 use native.Mathlib.Nat.{not-suc-le-zero, le-of-suc-le-suc, zero-lt-suc}
 use native.Mathlib.Omega.{arith}
-use lib.ListN.{length, take, getD}
-use lib.Seq.{paste, take-paste, length-paste}
+use lib.ListN.{length, take, drop, length-append}
+use lib.Seq.{take-at, length-take-le}
 use Rattle.values.specs.Large.{Values}
 use Rattle.values.proofs.Found.{values-tail}
-use Rattle.wiring.specs.declared.Module.the-variants.{Screen}
-use Rattle.feeding.specs.declared.Outlet.{Outlet}
-use Rattle.feeding.specs.Feeding.{outlet, contents, fed}
-use Rattle.feeding.proofs.Outlets.{held}
 use Rattle.page.specs.declared.Screen.{Screen as Page}
 use Rattle.page.specs.Ranges.{InScreen}
 use Rattle.screen.specs.declared.Ran.{Ran}
 use Rattle.screen.specs.Calls.{ran}
 use Rattle.screen.proofs.Given.{ran-none, run-parts}
-use Rattle.front.specs.declared.Front.{Front}
-use Rattle.front.specs.declared.Heard.{Heard}
-use Rattle.front.specs.Hearing.{heardBy, behind, toEach}
-use Rattle.front.proofs.Onwards.{brings, each-one}
+use Rattle.pieces.specs.Outputs.{written}
+use Rattle.pieces.proofs.Written.{length-written}
 
 -- of all that the screen is sent, t has been shown a beginning, and g has the rest: its first n
 pub record Shown (s : Page) (all : List ℕ) (t : Page) (g : List ℕ) (n : ℕ) : Type 0 where
@@ -64,45 +58,21 @@ module _ {s : Page} {all : List ℕ} {t : Page} {g : List ℕ} {n : ℕ} (now : 
       }
 
   -- more gathered behind it
-  pub added : (codes : List ℕ) (k : ℕ) → k ≤ length codes → n + k ≤ 4096 → {d more : List ℕ}
-      → d ≡ paste g n codes k → more ≡ all ++ take k codes → Shown s more t d (n + k)
-  added codes k h l {d} {more} e a =
+  pub added : (ws : List ℕ) → n + length ws ≤ 4096 → {d more : List ℕ} → d ≡ written g n ws → more ≡ all ++ ws
+      → Shown s more t d (n + length ws)
+  added ws l {d} {more} e a =
       let us = now .shown in
-      let p : take (n + k) d ≡ take n g ++ take k codes =
-      ap (take (n + k)) e ∙ take-paste g n codes k (omega (arith, now .long, now .room)) h in
+      let first : length (take n g) ≡ n = length-take-le n g (omega (arith, now .long, now .room)) in
+      let both : length (take n g ++ ws) ≡ n + length ws =
+      length-append (take n g) ws ∙ ap (λ (k : ℕ). k + length ws) first in
+      let p : take (n + length ws) d ≡ take n g ++ ws =
+      ap (take (n + length ws)) e ∙ take-at (take n g ++ ws) (drop (n + length ws) g) (n + length ws) both in
       record {
         shown = us;
         screen = now .screen;
         rest =
-            a ∙ ap (λ (vs : List ℕ). vs ++ take k codes) (now .rest) ∙ append-assoc us (take n g) (take k codes)
+            a ∙ ap (λ (vs : List ℕ). vs ++ ws) (now .rest) ∙ append-assoc us (take n g) ws
             ∙ ap (λ (vs : List ℕ). us ++ vs) (sym p);
-        long = ap length e ∙ length-paste g n codes k (omega (arith, now .long, l)) h ∙ now .long;
+        long = ap length e ∙ length-written g ws n (omega (arith, now .long, l)) ∙ now .long;
         room = l;
       }
-
--- ---- what one byte sends
-
-within : (k : ℕ) (l : List ℕ) → length (take k l) ≡ k → k ≤ length l
-within zero l e = zero-le
-within (suc k) [] e = omega (arith, e)
-within (suc k) (x ∷ xs) e = let r = within k xs (omega (arith, e)) in omega (arith, r)
-
-module _ (f : Front) (xs : List ℕ) (i : ℕ) (less : i < length xs) (h : Heard)
-    (heard : h ≡ heardBy (behind f (take i xs)) (getD xs i 0)) where
-  abbrev ws : List ℕ
-  ws = brings Screen (behind f (take i xs)) (getD xs i 0)
-
-  sent : contents (h .shares .screen) ≡ ws
-  unfolding heardBy fed brings
-  sent = ap (λ (e : Heard). contents (e .shares .screen)) heard ∙ held ws
-
-  pub next-sent : toEach Screen f (take (i + 1) xs) ≡ toEach Screen f (take i xs) ++ contents (h .shares .screen)
-  next-sent = each-one f xs i less Screen ∙ ap (λ (vs : List ℕ). toEach Screen f (take i xs) ++ vs) (sym sent)
-
-  counted : h .shares .screen .count ≡ length ws
-  unfolding heardBy fed brings
-  counted = ap (λ (e : Heard). e .shares .screen .count) heard
-
-  pub all-there : h .shares .screen .count ≤ length (h .shares .screen .codes)
-  all-there =
-      within (h .shares .screen .count) (h .shares .screen .codes) (ap length sent ∙ sym counted)

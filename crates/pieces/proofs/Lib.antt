@@ -1,10 +1,10 @@
+pub mod Written
+pub mod Spread
 pub mod SoFar
+pub mod Gathered
+pub mod Noting
 pub mod Single
 pub mod Numbered
 pub mod Taken
 pub mod Cut
 pub mod Shown
-pub mod Gathered
-pub mod Amply
-pub mod Quiets
-pub mod Still

@@ -1,6 +1,6 @@
 pub mod Pieces
+pub mod Noted
 pub mod Claims
 pub mod Cuts
 pub mod Playing
-pub mod Ample
-pub mod Holding
+pub mod Outputs

@@ -1,4 +1,4 @@
-// A piece heard for good: what the links send to the screen is written there, and the rest to the outputs.
+// A piece heard for good: what the links send to the screen is gathered and written there, and the rest to the outputs.
 ghost use mathlib.Core.Path.{_≡_};
 ghost use mathlib.Core.Bool.{true};
 ghost use Rattle.wiring.specs.declared.Module.the-variants.{Keyboard, Modem, Socket};
@@ -8,20 +8,21 @@ ghost use Rattle.page.specs.Ranges.{InScreen};
 ghost use Rattle.screen.specs.Calls.{ran};
 ghost use Rattle.front.specs.Hearing.{toEach, asks};
 ghost use Rattle.front.specs.Fitting.{within, roomIn, needed};
+ghost use Rattle.turns.specs.Notes.{notesOf};
 ghost use Rattle.pieces.specs.Pieces.{leftIn};
 ghost use Rattle.pieces.specs.Playing.{frontOf, played};
 use crate::Answer;
 use crate::Passage;
-use crate::holding::hold_all;
-use crate::outputs::hand;
+use crate::outputs::note;
 use crate::outputs::put;
+use crate::passing::pass_on;
 use board::Board;
-use front::Front;
 use front::Room;
 use page::Screen;
+use turns::take_turn;
 
 // As many values as are gathered for the screen before it is given them.
-const ROOM: usize = 4096;
+const GATHERED: usize = 4096;
 
 // What is gathered, written to the screen, whose range is tested once for all of it.
 fn show(screen: Screen, gathered: &[u8], filled: usize) -> Screen
@@ -39,10 +40,13 @@ pub(crate) fn play(
     modem: &mut [u8],
     socket: &mut [u8],
     requests: &mut [u8],
+    notes: &mut [u8],
+    noting: bool,
 ) -> Passage
     requires { ⌜ InScreen (board .screen) ⌝ }
     requires { ⌜ within (needed (frontOf board) (now piece))
         (roomIn (now keyboard) (now modem) (now socket) (now requests)) ≡ true ⌝ }
+    requires { ⌜ (noting ≡ true → length (now piece) ≤ length (now notes)) ⌝ }
     ensures { λ r. ⌜ r ≡ played board (now (piece .entry)) ⌝ }
     ensures keys { λ _. ⌜ now (keyboard .exit) ≡ leftIn true (toEach Keyboard (frontOf board) (now (piece .entry)))
         (now (keyboard .entry)) ⌝ }
@@ -52,40 +56,51 @@ pub(crate) fn play(
         (now (socket .entry)) ⌝ }
     ensures asked { λ _. ⌜ now (requests .exit) ≡ leftIn true (asks (frontOf board) (now (piece .entry)))
         (now (requests .entry)) ⌝ }
+    ensures noted { λ _. ⌜ now (notes .exit) ≡ leftIn noting (notesOf (board .receiver) (now (piece .entry)))
+        (now (notes .entry)) ⌝ }
 {
     let mut screen = board.screen;
-    let receiver = board.receiver;
-    let links = board.links;
-    let mut front = Front { receiver, links };
+    let mut receiver = board.receiver;
+    let mut links = board.links;
     let mut used = Room {
         keyboard: 0,
         modem: 0,
         socket: 0,
         requests: 0,
     };
-    let mut gathered = [0u8; ROOM];
+    let mut gathered = [0u8; GATHERED];
     let mut filled: usize = 0;
     let mut i: usize = 0;
     while i < piece.len() {
-        let heard = front::hear(front, piece[i]);
-        front = heard.front;
-        used = hand(heard, used, keyboard, modem, socket, requests);
-        let shares = heard.shares;
-        let sent = shares.screen;
-        if ROOM - 75 < filled {
+        let turn = take_turn(receiver, &piece[i..]);
+        let stepped = turn.stepped;
+        receiver = stepped.next;
+        note(noting, notes, i, turn.took, turn.note);
+        let request = stepped.request;
+        let asked = put(requests, used.requests, &request[..stepped.asked]);
+        if GATHERED - 75 < filled {
             screen = show(screen, &gathered, filled);
             filled = 0;
         }
-        put(&mut gathered, filled, sent);
-        filled += sent.count;
-        i += 1;
-        let held = hold_all(front, &piece[i..]);
-        front = held.front;
-        i += held.count;
+        let values = stepped.values;
+        let onward = pass_on(
+            links,
+            values,
+            stepped.passed,
+            filled,
+            used,
+            &mut gathered,
+            keyboard,
+            modem,
+            socket,
+        );
+        links = onward.links;
+        filled = onward.gathered;
+        used = onward.used;
+        used.requests = asked;
+        i += turn.took;
     }
     let screen = show(screen, &gathered, filled);
-    let receiver = front.receiver;
-    let links = front.links;
     Passage {
         next: Board {
             receiver,

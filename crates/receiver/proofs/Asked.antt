@@ -2,9 +2,9 @@
 use mathlib.Core.Path.{_≡_, refl, ap, _∙_, subst⁻¹}
 use mathlib.Core.List.{List, []}
 use mathlib.Core.Logic.{_⊎_, inl, inr}
-use Prim.Native.Nat.{ℕ, _≤_}
+use Prim.Native.Nat.{ℕ, _%_, _≤_}
 use native.Mathlib.Omega.{arith}
-use lib.ListN.{length}
+use lib.ListN.{length, take, length-map}
 use Rattle.laws.proofs.Computed.{chosen}
 use Rattle.maker.specs.Making.{valuesOf}
 use Rattle.reader.specs.declared.Verdict.{Verdict}
@@ -19,6 +19,7 @@ use Rattle.receiver.specs.States.{inRange, InRange}
 use Rattle.receiver.specs.Calls.{whole, accepts, judgedAs, byPhase, stepped, againBy, askedAgain}
 use Rattle.receiver.specs.Runs.{Event, byte, on, off, ask, obey, sentBy}
 use Rattle.receiver.specs.Standing.{askedIn, IsWaiting}
+use Rattle.receiver.proofs.Fifteens.{take-short}
 use Rattle.receiver.proofs.Shape.{Shape, plain, more, took, none, listens, shape}
 use Rattle.receiver.proofs.Kept.{on-afresh, off-afresh, again-as}
 
@@ -73,3 +74,21 @@ phase-counted (Waiting n) r b = (omega arith, refl)
 pub asked-counted : (r : Receiver) (b : ℕ) → Counted (stepped r b)
 asked-counted r b =
     chosen Counted (inRange r) (λ i. phase-counted (r .phase) r b) (λ i. (omega arith, refl))
+
+-- at most fifteen values pass
+
+pub fifteen : (B : List ℕ) → length (valuesOf B) ≤ 15
+fifteen B = let m = length-map (take 15 B) (λ (b : ℕ). b % 128) in omega (arith, m, take-short 15 B)
+
+abbrev Few : Stepped → Type 0
+Few s = s .passed ≤ 15
+
+phase-few : (p : Phase) (r : Receiver) (b : ℕ) → Few (byPhase p r b)
+phase-few Off r b = omega arith
+phase-few Collecting r b =
+    chosen Few (awaitsMore (r .count)) (λ h. omega arith)
+    (λ h. chosen Few (accepts (verdict (whole r b))) (λ a. fifteen (left (whole r b))) (λ a. omega arith))
+phase-few (Waiting n) r b = omega arith
+
+pub passed-few : (r : Receiver) (b : ℕ) → stepped r b .passed ≤ 15
+passed-few r b = chosen Few (inRange r) (λ i. phase-few (r .phase) r b) (λ i. omega arith)

@@ -37,7 +37,8 @@ values-drop zero vs f = f
 values-drop (suc n) [] f = f
 values-drop (suc n) (v ∷ vs) f = values-drop n vs (λ j k. f (suc j) (suc-le-suc k))
 
-take-short : (n : ℕ) (vs : List ℕ) → length (take n vs) ≤ n
+-- there are at most as many as are taken
+pub take-short : (n : ℕ) (vs : List ℕ) → length (take n vs) ≤ n
 take-short zero vs = omega arith
 take-short (suc n) [] = omega arith
 take-short (suc n) (v ∷ vs) = let h : length (take n vs) ≤ n = take-short n vs in omega arith

@@ -19,6 +19,7 @@ use Rattle.receiver.specs.States.{inRange}
 use Rattle.receiver.specs.Calls.{silent, refused, holding, judgedHeld, byPhase, stepped}
 use Rattle.receiver.specs.Runs.{Event, byte, run, Sent, sentBy, sent}
 use Rattle.receiver.specs.Page.{nothing}
+use Rattle.receiver.proofs.Fifteens.{take-short}
 use Rattle.receiver.proofs.Kept.{run-append, sent-append}
 use Rattle.receiver.proofs.Ranges.{in-range, number-in}
 use Rattle.turns.specs.Notes.{noteOn, noteOf, notesOf}
@@ -112,10 +113,10 @@ module _ (r : Receiver) (xs : List ℕ) (i : inRange r ≡ true) (p : r .phase �
 
 -- ---- as many as are only held
 
-taken-few : (n : ℕ) (xs : List ℕ) → (length (take n xs) ≤ n) × (length (take n xs) ≤ length xs)
-taken-few zero xs = (zero-le, zero-le)
-taken-few (suc n) [] = (zero-le, zero-le)
-taken-few (suc n) (x ∷ xs) = let r = taken-few n xs in (omega (arith, r .0), omega (arith, r .1))
+taken-few : (n : ℕ) (xs : List ℕ) → length (take n xs) ≤ length xs
+taken-few zero xs = zero-le
+taken-few (suc n) [] = zero-le
+taken-few (suc n) (x ∷ xs) = let r = taken-few n xs in omega (arith, r)
 
 pub as-many : (n : ℕ) (xs : List ℕ) → n ≤ length xs → n ≡ length (take n xs)
 as-many n xs h = sym (length-take-le n xs h)
@@ -135,22 +136,22 @@ module _ (r : Receiver) (xs : List ℕ) where
       → {q : Receiver} → q ≡ filled r xs k → record { receiver = q; count = k } ≡ heldOf r xs
   unfolding heldOf
   holds-some h array k e {q} f =
-      let few = taken-few (16 - r .count) xs in
+      let few = take-short (16 - r .count) xs in
       let held = all-held r xs (held-range r h) (held-phase r h) array k
-      (omega (arith, e, few .0, held-few r h)) (omega (arith, e, few .1)) in
+      (omega (arith, e, few, held-few r h)) (omega (arith, e, taken-few (16 - r .count) xs)) in
       ap (λ (p : Receiver). record { receiver = p; count = k }) (f ∙ sym (held .0))
       ∙ ap (λ (j : ℕ). record { receiver = behind r xs j; count = j }) (e ∙ sym (counted h))
 
   pub few-there : onlyHeld r xs ≤ length xs
   few-there =
-      chosen (λ (k : ℕ). k ≤ length xs) (holdsMore r) (λ h. taken-few (16 - r .count) xs .1) (λ h. zero-le)
+      chosen (λ (k : ℕ). k ≤ length xs) (holdsMore r) (λ h. taken-few (16 - r .count) xs) (λ h. zero-le)
 
   pub held-all : length (r .held) ≡ 17 → HeldOnly r xs (onlyHeld r xs)
   held-all array =
-      let few = taken-few (16 - r .count) xs in
+      let few = take-short (16 - r .count) xs in
       chosen (HeldOnly r xs) (holdsMore r)
       (λ h. all-held r xs (held-range r h) (held-phase r h) array (length (take (16 - r .count) xs))
-      (omega (arith, few .0, held-few r h)) (few .1))
+      (omega (arith, few, held-few r h)) (taken-few (16 - r .count) xs))
       (λ h. none-held r xs)
 
   pub holds-none : holdsMore r ≡ false → record { receiver = r; count = 0 } ≡ heldOf r xs

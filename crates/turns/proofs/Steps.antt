@@ -14,6 +14,7 @@ use Rattle.receiver.specs.declared.Receiver.{Receiver}
 use Rattle.receiver.specs.Calls.{stepped}
 use Rattle.receiver.specs.Runs.{Event, byte, run, Sent, sentBy, sent, allPassed, allAsked}
 use Rattle.receiver.specs.Page.{nothing}
+use Rattle.receiver.proofs.Asked.{asked-counted, passed-few}
 use Rattle.receiver.proofs.Kept.{run-append, sent-append}
 use Rattle.turns.specs.declared.Turn.{Turn}
 use Rattle.turns.specs.Notes.{noteOf, notesOf}
@@ -89,3 +90,13 @@ taken-singly r xs array some =
     let held : HeldOnly r xs k = held-all r xs array in
     chosen (TakenSingly r xs) (ltb k (length xs)) (λ e. one r xs k held (ltb-true k (length xs) e))
     (λ e. let m = ltb-false k (length xs) e in none r xs k held (omega (arith, m, some)) l)
+
+-- at most fifteen values pass, and two bytes are asked
+pub few-sent : (r : Receiver) (xs : List ℕ)
+    → (turnOf r xs .stepped .passed ≤ 15) × (turnOf r xs .stepped .asked ≤ 2)
+unfolding turnOf
+few-sent r xs =
+    let k : ℕ = onlyHeld r xs in
+    let q = run r (map byte (take k xs)) in
+    chosen (λ (t : Turn). (t .stepped .passed ≤ 15) × (t .stepped .asked ≤ 2)) (ltb k (length xs))
+    (λ e. (passed-few q (getD xs k 0), asked-counted q (getD xs k 0) .0)) (λ e. (omega arith, omega arith))

@@ -1,74 +1,15 @@
 -- `pieces::lines` meets its contract. Assumes nothing.
-use mathlib.Core.Path.{_≡_, sym, ap, ap₂, _∙_}
-use mathlib.Core.Bool.{Bool, true, false}
-use mathlib.Core.List.{List}
-use Prim.Native.Nat.{ℕ}
+use mathlib.Core.Path.{sym}
 use borrow.Author.Needs.{needs}
-use Rattle.laws.proofs.Lists.{length-mapped}
-use Rattle.wiring.specs.declared.Module.the-variants.{Keyboard, Modem, Socket}
-use Rattle.front.specs.Fitting.{roomIn, within, needed}
-use Rattle.board.specs.declared.Board.{Board}
-use Rattle.board.specs.Boards.{inRange}
-use Rattle.board.specs.Runs.{InBoard}
-use Rattle.board.proofs.Ranges.{passed-in}
-use Rattle.front.specs.declared.Room.{Room}
-use Rattle.pieces.specs.Pieces.{handed, asked, isTaken, leftIn}
-use Rattle.pieces.specs.Playing.{frontOf}
-use Rattle.pieces.proofs.Single.{handed-is, asked-is, taken-is, short-is, is-taken, broken-is}
+use Rattle.laws.proofs.Computed.{fails}
 use Rattle.pieces.proofs.lines.Statement.{statement}
 use Rattle.pieces.proofs.lines.Tie as tie
 
-in-range-requires : tie.Need-in-range-requires
-in-range-requires c κs = search needs
+slice-aggregate-hear-piece : tie.Need-slice-aggregate-hear-piece
+slice-aggregate-hear-piece c = search needs
 
-fitting-requires : tie.Need-fitting-requires
-fitting-requires c κs = search needs
-
--- ---- the board is in range
-
-module _ (d : tie.After-fitting) where
-  abbrev start : tie.Start
-  start = d .before .before .before .before .before .before .before .before .before .before
-
-  abbrev room : Room
-  room =
-      roomIn (start .args .keyboard .now) (start .args .modem .now) (start .args .socket .now)
-      (start .args .requests .now)
-
-  range : inRange (start .args .board) ≡ true
-  range = sym (d .before .before .before .before .in-range .ensures) ∙ d .before .before .before .if1 .taken
-
-  whole : InBoard (start .args .board)
-  whole =
-      let g = start .good .0 in
-      passed-in (start .args .board) (search (needs, g)) (search (length-mapped, g)) range
-
--- the outputs of a piece that is not taken
-module _ (s : tie.Start) (t : Bool) (e : t ≡ false) where
-  same : (vs out : List ℕ) → out ≡ leftIn t vs out
-  same vs out = sym (ap (λ (u : Bool). leftIn u vs out) e)
-
-  abbrev b : Board
-  b = s .args .board
-
-  abbrev xs : List ℕ
-  xs = s .args .piece .now
-
-  untouched : (s .args .keyboard .now ≡ leftIn t (handed Keyboard b xs) (s .args .keyboard .now))
-      × (s .args .modem .now ≡ leftIn t (handed Modem b xs) (s .args .modem .now))
-      × (s .args .socket .now ≡ leftIn t (handed Socket b xs) (s .args .socket .now))
-      × (s .args .requests .now ≡ leftIn t (asked b xs) (s .args .requests .now))
-  untouched = (
-    same (handed Keyboard b xs) (s .args .keyboard .now),
-    same (handed Modem b xs) (s .args .modem .now),
-    same (handed Socket b xs) (s .args .socket .now),
-    same (asked b xs) (s .args .requests .now),
-  )
-
-play-requires : tie.Need-play-requires
-play-requires c κs =
-    let d = c .before .before .before .before .before in
-    (whole d .screen, sym (d .fitting .ensures) ∙ c .before .before .before .before .if2 .taken)
+hear-piece-requires : tie.Need-hear-piece-requires
+hear-piece-requires c κs = λ e. absurd (fails (sym e) tt)
 
 same-length : tie.Need-same-length
 same-length c = search needs
@@ -83,63 +24,16 @@ same-length-4 : tie.Need-same-length-4
 same-length-4 c = search needs
 
 returns : tie.Need-returns
-returns c =
-    let p = c .before .before .before .before .before .before .before .before in
-    let t = p .before .before .before .before .before in
-    let d = t .before in
-    let e = p .play .ensures in
-    let b = start d .args .board in
-    let xs = start d .args .piece .now in
-    let w : within (needed (frontOf b) xs) (room d) ≡ true = sym (d .fitting .ensures) ∙ t .if2 .taken in
-    let y : isTaken b xs (room d) ≡ true = is-taken b (whole d) xs (room d) true (range d) w in
-    let out : (vs us out : List ℕ) → us ≡ vs → leftIn true vs out ≡ leftIn (isTaken b xs (room d)) us out =
-    λ vs us out p. sym (ap₂ (λ (u : Bool) (ws : List ℕ). leftIn u ws out) y p) in (
-      e .0 ∙ taken-is b (whole d) xs (room d) (range d) w,
-      (
-        e .1 .0 ∙ out _ _ _ (handed-is b (whole d) xs Keyboard tt),
-        e .1 .1 .0 ∙ out _ _ _ (handed-is b (whole d) xs Modem tt),
-        e .1 .1 .1 .0 ∙ out _ _ _ (handed-is b (whole d) xs Socket tt),
-        e .1 .1 .1 .1 ∙ out _ _ _ (asked-is b (whole d) xs),
-      ),
-    )
-
-refuse-requires : tie.Need-refuse-requires
-refuse-requires c κs = search needs
-
-returns-2 : tie.Need-returns-2
-returns-2 c =
-    let d = c .before .before in
-    let b = start d .args .board in
-    let xs = start d .args .piece .now in
-    let w : within (needed (frontOf b) xs) (room d) ≡ false = sym (d .fitting .ensures) ∙ c .before .if2 .left in
-    let t : isTaken b xs (room d) ≡ false = is-taken b (whole d) xs (room d) false (range d) w in
-    (c .refuse .ensures ∙ short-is b (whole d) xs (room d) (range d) w, untouched (start d) (isTaken b xs (room d)) t)
-
-refuse-requires-2 : tie.Need-refuse-requires-2
-refuse-requires-2 c κs = search needs
-
-returns-3 : tie.Need-returns-3
-returns-3 c =
-    let s = c .before .before .before .before .before .before .before .before in
-    let a = s .args in
-    let r = roomIn (a .keyboard .now) (a .modem .now) (a .socket .now) (a .requests .now) in
-    let e : inRange (a .board) ≡ false = sym (c .before .before .in-range .ensures) ∙ c .before .if1 .left in
-    let n = broken-is (a .board) (a .piece .now) r e in
-    (c .refuse2 .ensures ∙ n .0, untouched s (isTaken (a .board) (a .piece .now) r) (n .1))
+returns c = search needs
 
 pub lines-spec : {M : Type 1} → statement M
 lines-spec =
     tie.close
     (tie.spec
-    in-range-requires
-    fitting-requires
-    play-requires
+    slice-aggregate-hear-piece
+    hear-piece-requires
     same-length
     same-length-2
     same-length-3
     same-length-4
-    returns
-    refuse-requires
-    returns-2
-    refuse-requires-2
-    returns-3)
+    returns)

@@ -4,25 +4,26 @@ use mathlib.Core.List.{List}
 use Prim.Native.Nat.{ℕ, _+_, _-_, _≤_, zero-le}
 use native.Mathlib.Numerals.{add-one}
 use native.Mathlib.Omega.{arith}
-use lib.ListN.{length, getD, set, length-set}
-use lib.Seq.{paste, paste-zero, paste-suc}
+use lib.ListN.{length, take, getD, set, length-set}
+use lib.Seq.{paste, paste-zero, paste-suc, take-all}
 use borrow.Author.Needs.{needs}
+use Rattle.pieces.specs.Outputs.{written}
+use Rattle.pieces.proofs.Written.{pasted}
 use Rattle.pieces.proofs.outputs.put.Statement.{statement}
 use Rattle.pieces.proofs.outputs.put.Tie as tie
 
 abbrev Inv-loop : tie.InvT-loop
-Inv-loop out₀ at from codes i₀ out i =
-    (i ≤ from .count) × (out ≡ paste out₀ at codes i) × (length out ≡ length out₀) × (length codes ≡ 75)
+Inv-loop out₀ at bytes i₀ out i =
+    (i ≤ length bytes) × (out ≡ paste out₀ at bytes i) × (length out ≡ length out₀)
 
 abbrev μ-loop : tie.MeasureT-loop
-μ-loop out₀ at from codes i₀ out i = from .count - i
+μ-loop out₀ at bytes i₀ out i = length bytes - i
 
 loop-holds : tie.Need-loop-holds Inv-loop μ-loop
-loop-holds c =
-    let a = c .before .args in (zero-le, paste-zero (a .out .now) (a .at) (a .from .codes), refl, search needs)
+loop-holds c = let a = c .args in (zero-le, paste-zero (a .out .now) (a .at) (a .bytes .now), refl)
 
-array-read-out : tie.Need-array-read-out Inv-loop μ-loop
-array-read-out c = search needs
+shared-slice-read-out : tie.Need-shared-slice-read-out Inv-loop μ-loop
+shared-slice-read-out c = omega arith
 
 add-out : tie.Need-add-out Inv-loop μ-loop
 add-out c = search needs
@@ -39,26 +40,32 @@ loop-less c = omega arith
 loop-again : tie.Need-loop-again Inv-loop μ-loop
 loop-again c =
     let l = c .before .before in
-    let a = l .before .before .args in
+    let a = l .before .args in
     let i : ℕ = l .loop .i in
-    let v : ℕ = getD (a .from .codes) i 0 in (
+    let v : ℕ = getD (a .bytes .now) i 0 in (
       omega arith,
       ap (λ (x : List ℕ). set x (a .at + i) v) (l .loop .inv .1)
-          ∙ paste-suc (a .out .now) (a .at) (a .from .codes) i 0 (omega arith) (omega arith)
-          ∙ ap (paste (a .out .now) (a .at) (a .from .codes)) (sym (add-one i)),
+          ∙ paste-suc (a .out .now) (a .at) (a .bytes .now) i 0 (omega arith) (omega arith)
+          ∙ ap (paste (a .out .now) (a .at) (a .bytes .now)) (sym (add-one i)),
       length-set (l .loop .out) (a .at + i) v ∙ l .loop .inv .2,
-      l .loop .inv .3,
     )
 
+add-result : tie.Need-add-result Inv-loop μ-loop
+add-result c = search needs
+
 same-length : tie.Need-same-length Inv-loop μ-loop
-same-length c = c .before .before .loop .inv .2
+same-length c = c .before .loop .inv .2
 
 returns : tie.Need-returns Inv-loop μ-loop
 returns c =
-    let l = c .before .before in
-    let a = l .before .before .args in
-    let e : l .loop .i ≡ a .from .count = omega arith in
-    l .loop .inv .1 ∙ ap (paste (a .out .now) (a .at) (a .from .codes)) e
+    let l = c .before in
+    let a = l .before .args in
+    let e : take (l .loop .i) (a .bytes .now) ≡ a .bytes .now = take-all (l .loop .i) (a .bytes .now) (omega arith) in (
+      refl,
+      l .loop .inv .1
+          ∙ pasted (a .out .now) (a .bytes .now) (a .at) (l .loop .i) (ap length e ∙ omega arith)
+          ∙ ap (written (a .out .now) (a .at)) e,
+    )
 
 pub put-spec : {M : Type 1} → statement M
 put-spec =
@@ -67,11 +74,12 @@ put-spec =
     Inv-loop
     μ-loop
     loop-holds
-    array-read-out
+    shared-slice-read-out
     add-out
     slice-write-out
     add-i
     loop-less
     loop-again
+    add-result
     same-length
     returns)

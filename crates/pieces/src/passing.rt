@@ -1,0 +1,94 @@
+// Values handed to the links as the modem's, and what each module gets of them written where it belongs.
+ghost use mathlib.Core.Path.{_≡_};
+ghost use Prim.Native.Nat.{_+_, _≤_};
+ghost use lib.ListN.{length};
+ghost use Rattle.feeding.specs.Feeding.{contents};
+ghost use Rattle.wiring.specs.declared.Module.the-variants.{Screen, Keyboard, Modem, Socket};
+ghost use Rattle.pieces.specs.Outputs.{written, sentTo, onward};
+use crate::outputs::put;
+use crate::outputs::put_where;
+use feeding::Outlet;
+use front::Room;
+use links::Links;
+
+// The links behind some values, and what is written then: for the screen, and to each output.
+pub(crate) struct Onward {
+    pub(crate) links: Links,
+    pub(crate) gathered: usize,
+    pub(crate) used: Room,
+}
+
+// What a module gets, behind what is written for it.
+fn put_share(out: &mut [u8], at: usize, share: Outlet) -> usize
+    requires { ⌜ share .count ≤ 75 ⌝ }
+    requires { ⌜ at + share .count ≤ length (now out) ⌝ }
+    ensures { λ r. ⌜ r ≡ at + share .count ⌝ }
+    ensures left { λ _. ⌜ now (out .exit) ≡ written (now (out .entry)) at (contents share) ⌝ }
+{
+    let codes = share.codes;
+    put(out, at, &codes[..share.count])
+}
+
+// The first `passed` values. Plain ones go to each module that the modem reaches, as they are.
+pub(crate) fn pass_on(
+    links: Links,
+    values: [u8; 15],
+    passed: usize,
+    filled: usize,
+    used: Room,
+    gathered: &mut [u8],
+    keyboard: &mut [u8],
+    modem: &mut [u8],
+    socket: &mut [u8],
+) -> Onward
+    requires { ⌜ passed ≤ 15 ⌝ }
+    requires { ⌜ filled + length (sentTo Screen links values passed) ≤ length (now gathered) ⌝ }
+    requires { ⌜ used .keyboard + length (sentTo Keyboard links values passed) ≤ length (now keyboard) ⌝ }
+    requires { ⌜ used .modem + length (sentTo Modem links values passed) ≤ length (now modem) ⌝ }
+    requires { ⌜ used .socket + length (sentTo Socket links values passed) ≤ length (now socket) ⌝ }
+    ensures { λ r. ⌜ r ≡ onward links values passed filled used ⌝ }
+    ensures shown { λ _. ⌜ now (gathered .exit)
+        ≡ written (now (gathered .entry)) filled (sentTo Screen links values passed) ⌝ }
+    ensures keys { λ _. ⌜ now (keyboard .exit)
+        ≡ written (now (keyboard .entry)) (used .keyboard) (sentTo Keyboard links values passed) ⌝ }
+    ensures line { λ _. ⌜ now (modem .exit)
+        ≡ written (now (modem .entry)) (used .modem) (sentTo Modem links values passed) ⌝ }
+    ensures port { λ _. ⌜ now (socket .exit)
+        ≡ written (now (socket .entry)) (used .socket) (sentTo Socket links values passed) ⌝ }
+{
+    if feeding::are_plain(links, values) {
+        let row = links.table.modem;
+        let plain = &values[..passed];
+        let shown = put_where(row.screen, gathered, filled, plain);
+        let keys = put_where(row.keyboard, keyboard, used.keyboard, plain);
+        let line = put_where(row.modem, modem, used.modem, plain);
+        let port = put_where(row.socket, socket, used.socket, plain);
+        return Onward {
+            links,
+            gathered: shown,
+            used: Room {
+                keyboard: keys,
+                modem: line,
+                socket: port,
+                requests: used.requests,
+            },
+        };
+    }
+    let fed = feeding::feed(links, values, passed);
+    let shares = fed.shares;
+    let shown = put_share(gathered, filled, shares.screen);
+    let keys = put_share(keyboard, used.keyboard, shares.keyboard);
+    let line = put_share(modem, used.modem, shares.modem);
+    let port = put_share(socket, used.socket, shares.socket);
+    let links = fed.links;
+    Onward {
+        links,
+        gathered: shown,
+        used: Room {
+            keyboard: keys,
+            modem: line,
+            socket: port,
+            requests: used.requests,
+        },
+    }
+}
