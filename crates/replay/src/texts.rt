@@ -1,5 +1,6 @@
 // Parts of lent memory, none longer than it is, and texts put together in it, so that a caller has no length to prove.
 use crate::files::fail;
+use crate::numbers::further;
 
 // The first bytes of it, or all of them where it has fewer.
 pub(crate) fn first(s: &[u8], n: usize) -> &[u8] {
@@ -24,71 +25,77 @@ pub(crate) fn is(word: &[u8], name: &[u8]) -> bool {
     true
 }
 
+// The bytes of it from one place to another, or none where it has no such places.
+fn part(s: &[u8], from: usize, to: usize) -> &[u8] {
+    if from <= to && to <= s.len() {
+        return &s[from..to];
+    }
+    &s[0..0]
+}
+
+// The byte at a place, 0 where there is none.
+fn byte_at(s: &[u8], at: usize) -> u8 {
+    if at < s.len() {
+        return s[at];
+    }
+    0
+}
+
 // How much is used where something did not fit: more than any memory has.
 const FULL: usize = usize::MAX;
 
-// Adds what fits of `words` after the first `used` bytes of a text: how many are used then, or FULL where they did not
-// fit. Whoever makes a text lends enough for the longest.
+// Adds `words` after the first `used` bytes of a text: how many are used then, or FULL where they do not fit. Whoever
+// makes a text lends enough for the longest.
 pub(crate) fn add(words: &[u8], text: &mut [u8], used: usize) -> usize {
-    let mut at = used;
+    if used > text.len() {
+        return FULL;
+    }
+    if words.len() > text.len() - used {
+        return FULL;
+    }
     let mut i = 0;
     while i < words.len() {
-        if at >= text.len() {
-            return FULL;
-        }
-        text[at] = words[i];
-        at += 1;
+        text[used + i] = words[i];
         i += 1;
+    }
+    used + i
+}
+
+// Adds a number as its mark in a template asks: two hex digits for `%`, and decimal for `#`.
+fn add_number(mark: u8, n: u64, text: &mut [u8], used: usize) -> usize {
+    if mark == b'%' {
+        let mut digits = [0u8; 16];
+        let k = io::hex(n, 2, &mut digits);
+        return add(&digits[..k], text, used);
+    }
+    let mut digits = [0u8; 20];
+    let k = io::decimal(n, &mut digits);
+    add(&digits[..k], text, used)
+}
+
+// The place of the first mark of a template from a place on, or where it ends.
+fn mark_after(template: &[u8], from: usize) -> usize {
+    let mut at = from;
+    while at < template.len() && template[at] != b'#' && template[at] != b'%' {
+        at += 1;
     }
     at
 }
 
-// Adds a character of a template: `#` stands for a number in decimal, `%` for the two hex digits of a byte, and any
-// other for itself.
-fn add_mark(mark: u8, n: u64, text: &mut [u8], used: usize) -> usize {
-    match mark {
-        b'#' => {
-            let mut digits = [0u8; 20];
-            let k = io::decimal(n, &mut digits);
-            add(&digits[..k], text, used)
-        }
-        b'%' => {
-            let mut digits = [0u8; 16];
-            let k = io::hex(n, 2, &mut digits);
-            add(&digits[..k], text, used)
-        }
-        _ => add(&[mark], text, used),
-    }
-}
-
-// Adds a template to a text, and the numbers that stand in it, in turn.
+// Adds a template to a text, and the numbers that stand in it, in turn: `#` stands for a number in decimal, `%` for the
+// two hex digits of a byte. What stands between two of them is added in one go.
 pub(crate) fn compose(template: &[u8], numbers: &[u64], text: &mut [u8], begun: usize) -> usize {
     let mut used = begun;
+    let mut from = 0;
     let mut next = 0;
-    let mut i = 0;
-    while i < template.len() {
-        let mark = template[i];
-        used = add_mark(mark, number_at(numbers, next), text, used);
-        next = after(mark, next);
-        i += 1;
+    while next < numbers.len() {
+        let mark = mark_after(template, from);
+        used = add(part(template, from, mark), text, used);
+        used = add_number(byte_at(template, mark), numbers[next], text, used);
+        from = further(mark, 1);
+        next += 1;
     }
-    used
-}
-
-// The place of the number that stands after a character of a template.
-fn after(mark: u8, next: usize) -> usize {
-    if next < usize::MAX && (mark == b'#' || mark == b'%') {
-        return next + 1;
-    }
-    next
-}
-
-// The number at a place, 0 where there is none.
-fn number_at(numbers: &[u64], at: usize) -> u64 {
-    if at < numbers.len() {
-        return numbers[at];
-    }
-    0
+    add(part(template, from, template.len()), text, used)
 }
 
 // Writes the first `used` bytes of a text on standard output, unless something before them could not be written:

@@ -7,35 +7,53 @@ use Rattle.replay.proofs.texts.compose.Statement.{statement}
 use Rattle.replay.proofs.texts.compose.Tie as tie
 
 abbrev Inv-loop : tie.InvT-loop
-Inv-loop template numbers text₀ begun used₀ next₀ i₀ text used next i =
-    (i ≤ length template) × (length text ≡ length text₀)
+Inv-loop template numbers text₀ begun used₀ from₀ next₀ text used from next =
+    (next ≤ length numbers) × (length text ≡ length text₀)
 
 abbrev μ-loop : tie.MeasureT-loop
-μ-loop template numbers text₀ begun used₀ next₀ i₀ text used next i = length template - i
+μ-loop template numbers text₀ begun used₀ from₀ next₀ text used from next = length numbers - next
 
 loop-holds : tie.Need-loop-holds Inv-loop μ-loop
 loop-holds c = search needs
 
-shared-slice-read-mark : tie.Need-shared-slice-read-mark Inv-loop μ-loop
-shared-slice-read-mark c = search needs
+mark-after-requires : tie.Need-mark-after-requires Inv-loop μ-loop
+mark-after-requires c κs = search needs
 
-number-at-requires : tie.Need-number-at-requires Inv-loop μ-loop
-number-at-requires c κs = search needs
+part-requires : tie.Need-part-requires Inv-loop μ-loop
+part-requires c κs = search needs
 
-add-mark-requires : tie.Need-add-mark-requires Inv-loop μ-loop
-add-mark-requires c κs = search needs
+add-requires : tie.Need-add-requires Inv-loop μ-loop
+add-requires c κs = search needs
 
-after-requires : tie.Need-after-requires Inv-loop μ-loop
-after-requires c κs = search needs
+byte-at-requires : tie.Need-byte-at-requires Inv-loop μ-loop
+byte-at-requires c κs = search needs
 
-add-i : tie.Need-add-i Inv-loop μ-loop
-add-i c = search needs
+mul-add-number : tie.Need-mul-add-number Inv-loop μ-loop
+mul-add-number c = search needs
+
+shared-slice-read-add-number : tie.Need-shared-slice-read-add-number Inv-loop μ-loop
+shared-slice-read-add-number c = search needs
+
+add-number-requires : tie.Need-add-number-requires Inv-loop μ-loop
+add-number-requires c κs = search needs
+
+further-requires : tie.Need-further-requires Inv-loop μ-loop
+further-requires c κs = search needs
+
+add-next : tie.Need-add-next Inv-loop μ-loop
+add-next c = search needs
 
 loop-less : tie.Need-loop-less Inv-loop μ-loop
 loop-less c = search needs
 
 loop-again : tie.Need-loop-again Inv-loop μ-loop
 loop-again c = search needs
+
+part-requires-2 : tie.Need-part-requires-2 Inv-loop μ-loop
+part-requires-2 c κs = search needs
+
+add-requires-2 : tie.Need-add-requires-2 Inv-loop μ-loop
+add-requires-2 c κs = search needs
 
 same-length : tie.Need-same-length Inv-loop μ-loop
 same-length c = search needs
@@ -50,12 +68,18 @@ compose-spec =
     Inv-loop
     μ-loop
     loop-holds
-    shared-slice-read-mark
-    number-at-requires
-    add-mark-requires
-    after-requires
-    add-i
+    mark-after-requires
+    part-requires
+    add-requires
+    byte-at-requires
+    mul-add-number
+    shared-slice-read-add-number
+    add-number-requires
+    further-requires
+    add-next
     loop-less
     loop-again
+    part-requires-2
+    add-requires-2
     same-length
     returns)
