@@ -5,10 +5,11 @@ use crate::numbers::grown;
 use board::Board;
 use pieces::Answer;
 use pieces::Passage;
+use receiver::Receiver;
 
-// As many bytes as an output may need for a piece: the blocks that end in it carry at most fifteen values more than it
-// has bytes, and no value sends more than five.
-const ROOM: usize = 5 * (4096 + 16);
+// As many bytes as surely suffice for a piece, so that it is not heard for room first: with at most sixteen bytes held
+// before it, it brings at most sixteen values more than it has bytes, and no value sends more than five.
+pub(crate) const ROOM: usize = 5 * (4096 + 16);
 
 // A board, whether it has taken every piece so far, how many bytes it has heard, and how many its links have handed
 // out.
@@ -37,20 +38,32 @@ pub(crate) fn begun() -> Play {
     }
 }
 
-// A piece from the line, of at most 4,096 bytes. One that is not taken gets a line on standard error, and counts as not
-// heard.
-pub(crate) fn hear(play: Play, name: &[u8], piece: &[u8]) -> Play {
+// The receiver of the board.
+pub(crate) fn receiver(play: Play) -> Receiver {
+    let board = play.board;
+    board.receiver
+}
+
+// A piece from the line, of at most 4,096 bytes, with the requests that come of it and a note of each byte. One that is
+// not taken gets a line on standard error, and counts as not heard.
+pub(crate) fn hear(
+    play: Play,
+    name: &[u8],
+    piece: &[u8],
+    requests: &mut [u8],
+    notes: &mut [u8],
+) -> Play {
     let mut keyboard = [0u8; ROOM];
     let mut modem = [0u8; ROOM];
     let mut socket = [0u8; ROOM];
-    let mut requests = [0u8; ROOM];
-    let heard = pieces::lines(
+    let heard = pieces::lines_noted(
         play.board,
         piece,
         &mut keyboard,
         &mut modem,
         &mut socket,
-        &mut requests,
+        requests,
+        notes,
     );
     let answer = heard.answer;
     match answer {

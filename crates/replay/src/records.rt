@@ -9,33 +9,59 @@ use crate::files::show_progress;
 use crate::files::unread;
 use crate::hut;
 use crate::hut::Play;
+use crate::hut::ROOM;
 use crate::numbers::difference;
 use crate::rows::write_cursor;
 use crate::rows::write_rows;
 use crate::texts::first;
 use page::Screen;
 
+// A record that is being played: its board, and its book.
+struct Playing {
+    play: Play,
+    book: Book,
+}
+
 // Plays a record to its end, or until reading it fails or the board refuses it; what was played before is told all the
 // same. No record has more portions than turns.
 pub(crate) fn play(fd: i32, name: &[u8], telling: bool) {
     let mut portion = io::buffer();
-    let mut book = book::begun();
-    let mut play = hut::begun();
+    let mut playing = Playing {
+        play: hut::begun(),
+        book: book::begun(),
+    };
     let mut filled = unread();
     let mut turns = u64::MAX;
-    while turns > 0 && filled.more && book.written && play.taking {
+    while turns > 0 && filled.more && playing.book.told.written && playing.play.taking {
         filled = fill(fd, name, &mut portion);
         let piece = first(&portion, filled.count);
-        show_progress(name, play.read, filled.count);
-        play = hut::hear(play, name, piece);
-        if telling && play.taking {
-            book = book::enter_all(book, piece);
-        }
+        show_progress(name, playing.play.read, filled.count);
+        playing = play_portion(playing, name, piece, telling);
         turns -= 1;
     }
+    let play = playing.play;
+    let book = playing.book;
     let whole = play.taking && !filled.failed;
-    if book.written && (whole || play.read > 0) {
+    if book.told.written && (whole || play.read > 0) {
         tell_end(name, telling, whole, book, play);
+    }
+}
+
+// Plays a portion, and enters it in the book where the record is told.
+fn play_portion(playing: Playing, name: &[u8], portion: &[u8], telling: bool) -> Playing {
+    let mut requests = [0u8; ROOM];
+    let mut notes = io::buffer();
+    let book = playing.book;
+    let before = hut::receiver(playing.play);
+    let play = hut::hear(playing.play, name, portion, &mut requests, &mut notes);
+    if !telling || !play.taking {
+        return Playing { play, book };
+    }
+    let noted = first(&notes, portion.len());
+    let entered = book::enter_all(book, before, portion, noted, &requests);
+    Playing {
+        play,
+        book: entered,
     }
 }
 
@@ -49,7 +75,7 @@ fn tell_end(name: &[u8], telling: bool, whole: bool, book: Book, play: Play) {
     if telling {
         draw(
             board.screen,
-            tell_totals(book, play.keyboard, play.modem, play.socket),
+            tell_totals(book, board.receiver, play.keyboard, play.modem, play.socket),
         );
     } else {
         write_rows(board.screen, true, true);

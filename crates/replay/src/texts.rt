@@ -34,7 +34,7 @@ fn part(s: &[u8], from: usize, to: usize) -> &[u8] {
 }
 
 // The byte at a place, 0 where there is none.
-fn byte_at(s: &[u8], at: usize) -> u8 {
+pub(crate) fn byte_at(s: &[u8], at: usize) -> u8 {
     if at < s.len() {
         return s[at];
     }
@@ -111,10 +111,49 @@ pub(crate) fn put(text: &[u8], used: usize, written: bool) -> bool {
     false
 }
 
-// Writes a template with its numbers on standard output, as `put` does. No line that is told is longer than the room
-// here.
+// No line that is told is longer.
+const LINE: usize = 400;
+
+// Writes a template with its numbers on standard output, as `put` does.
 pub(crate) fn tell(template: &[u8], numbers: &[u64], written: bool) -> bool {
-    let mut text = [0u8; 400];
+    let mut text = [0u8; LINE];
     let used = compose(template, numbers, &mut text, 0);
     put(&text, used, written)
+}
+
+// Lines gathered in lent memory, so that many are written at once: how many bytes they are, and whether all before them
+// is written.
+pub(crate) struct Gathered {
+    pub(crate) used: usize,
+    pub(crate) written: bool,
+}
+
+// Writes what is gathered, as `put` does.
+pub(crate) fn flush(text: &[u8], gathered: Gathered) -> Gathered {
+    Gathered {
+        used: 0,
+        written: put(text, gathered.used, gathered.written),
+    }
+}
+
+// The same where a line more might not fit.
+fn make_room(text: &[u8], gathered: Gathered) -> Gathered {
+    if text.len() >= LINE && gathered.used <= text.len() - LINE {
+        return gathered;
+    }
+    flush(text, gathered)
+}
+
+// Adds a template with its numbers to what is gathered.
+pub(crate) fn gather(
+    template: &[u8],
+    numbers: &[u64],
+    text: &mut [u8],
+    begun: Gathered,
+) -> Gathered {
+    let ready = make_room(text, begun);
+    Gathered {
+        used: compose(template, numbers, text, ready.used),
+        written: ready.written,
+    }
 }

@@ -6,11 +6,10 @@ use Rattle.replay.proofs.records.play.Statement.{statement}
 use Rattle.replay.proofs.records.play.Tie as tie
 
 abbrev Inv-loop : tie.InvT-loop
-Inv-loop fd name telling portion₀ book₀ play₀ filled₀ turns₀ portion book play filled turns =
-    length portion ≡ 4096
+Inv-loop fd name telling portion₀ playing₀ filled₀ turns₀ portion playing filled turns = length portion ≡ 4096
 
 abbrev μ-loop : tie.MeasureT-loop
-μ-loop fd name telling portion₀ book₀ play₀ filled₀ turns₀ portion book play filled turns = turns
+μ-loop fd name telling portion₀ playing₀ filled₀ turns₀ portion playing filled turns = turns
 
 buffer-requires : tie.Need-buffer-requires Inv-loop μ-loop
 buffer-requires c κs = search needs
@@ -42,11 +41,8 @@ first-requires c κs = search needs
 show-progress-requires : tie.Need-show-progress-requires Inv-loop μ-loop
 show-progress-requires c κs = search needs
 
-hear-requires : tie.Need-hear-requires Inv-loop μ-loop
-hear-requires c κs = search needs
-
-enter-all-requires : tie.Need-enter-all-requires Inv-loop μ-loop
-enter-all-requires c κs = search needs
+play-portion-requires : tie.Need-play-portion-requires Inv-loop μ-loop
+play-portion-requires c κs = search needs
 
 sub-turns : tie.Need-sub-turns Inv-loop μ-loop
 sub-turns c = search needs
@@ -82,8 +78,7 @@ play-spec =
     slice-aggregate-first
     first-requires
     show-progress-requires
-    hear-requires
-    enter-all-requires
+    play-portion-requires
     sub-turns
     loop-less
     loop-again
