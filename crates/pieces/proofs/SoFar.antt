@@ -2,14 +2,13 @@
 use mathlib.Core.Path.{_≡_, refl, sym, ap, ap₂, _∙_}
 use mathlib.Core.Bool.{Bool, true, false, cond}
 use mathlib.Core.List.{List, _∷_, [], _++_}
-use Prim.Native.Nat.{ℕ, suc, _+_, _-_, _≤_}
+use Prim.Native.Nat.{ℕ, _+_, _-_, _≤_}
 use native.Mathlib.Omega.{arith}
 use lib.ListN.{length, take, drop, replicate, length-append}
 use lib.Seq.{take-add, length-take-le}
 use Rattle.wiring.specs.declared.Module.{Module}
 use Rattle.wiring.specs.declared.Module.the-variants.{Keyboard, Modem, Socket}
 use Rattle.receiver.specs.declared.Receiver.{Receiver}
-use Rattle.receiver.specs.Calls.{stepped}
 use Rattle.links.specs.declared.Links.{Links}
 use Rattle.links.specs.Runs.{Call, run as linksRun}
 use Rattle.feeding.specs.Feeding.{fromLine, got}
@@ -23,6 +22,7 @@ use Rattle.turns.specs.declared.Turn.{Turn}
 use Rattle.turns.specs.Notes.{notesOf}
 use Rattle.turns.specs.Turns.{TakenSingly}
 use Rattle.turns.proofs.Held.{notes-append}
+use Rattle.turns.proofs.Steps.{notes-many}
 use Rattle.pieces.specs.declared.passing.Onward.{Onward}
 use Rattle.pieces.specs.Outputs.{written, sentTo, onward}
 use Rattle.pieces.proofs.Written.{begins, as-long, further}
@@ -111,10 +111,6 @@ so-many us ws all at a j =
 -- where they are asked for
 abbrev pub notesLeft : Bool → List ℕ → List ℕ → List ℕ
 notesLeft noting ns before = cond noting (begins ns before) before
-
-notes-many : (r : Receiver) (xs : List ℕ) → length (notesOf r xs) ≡ length xs
-notes-many r [] = refl
-notes-many r (x ∷ xs) = ap suc (notes-many (stepped r x .next) xs)
 
 pub notes-long : (noting : Bool) (r : Receiver) (ys before : List ℕ) → (noting ≡ true → length ys ≤ length before)
     → length (notesLeft noting (notesOf r ys) before) ≡ length before

@@ -1,25 +1,29 @@
 -- A turn comes to what its bytes come to one by one. Assumes nothing.
-use mathlib.Core.Path.{_≡_, refl, sym, ap, ap₂, _∙_, subst}
-use mathlib.Core.Bool.{Bool, true, false}
+use mathlib.Core.Path.{_≡_, refl, sym, ap, _∙_}
+use mathlib.Core.Bool.{Bool, true, false, cond, _&&_}
 use mathlib.Core.List.{List, [], _∷_, _++_, map, map-append, append-nil}
 use Prim.Native.Nat.{ℕ, zero, suc, _+_, _-_, _≤_, _<_}
 use native.Mathlib.Numerals.{add-one}
 use native.Mathlib.Omega.{arith}
 use lib.Dec.{ltb}
 use lib.ListN.{length, take, getD, replicate}
-use borrow.Author.Tests.{ltb-true, ltb-false}
-use lib.Seq.{take-suc}
+use lib.Seq.{take-suc, length-take-le}
+use borrow.Author.Tests.{ltb-true, ltb-false, lt-ltb}
 use Rattle.laws.proofs.Computed.{chosen}
+use Rattle.phases.specs.Phases.{awaitsMore}
+use Rattle.phases.specs.declared.Phase.the-variants.{Collecting}
 use Rattle.receiver.specs.declared.Receiver.{Receiver}
+use Rattle.receiver.specs.States.{emptied}
 use Rattle.receiver.specs.Calls.{stepped}
 use Rattle.receiver.specs.Runs.{Event, byte, run, Sent, sentBy, sent, allPassed, allAsked}
 use Rattle.receiver.specs.Page.{nothing}
 use Rattle.receiver.proofs.Asked.{asked-counted, passed-few}
 use Rattle.receiver.proofs.Kept.{run-append, sent-append}
+use Rattle.receiver.proofs.Ranges.{in-range}
 use Rattle.turns.specs.declared.Turn.{Turn}
 use Rattle.turns.specs.Notes.{noteOf, notesOf}
-use Rattle.turns.specs.Turns.{onlyHeld, oneMore, still, turnOf, TakenSingly}
-use Rattle.turns.proofs.Held.{HeldOnly, one-copy, notes-append, few-there, held-all}
+use Rattle.turns.specs.Turns.{onlyHeld, behind, oneMore, still, turnOf, TakenSingly}
+use Rattle.turns.proofs.Held.{HeldOnly, one-copy, notes-append, counted, few-there, held-all}
 
 no-values : (k : ℕ) (os : List Sent) → allPassed (replicate k nothing ++ os) ≡ allPassed os
 no-values zero os = refl
@@ -100,3 +104,28 @@ few-sent r xs =
     let q = run r (map byte (take k xs)) in
     chosen (λ (t : Turn). (t .stepped .passed ≤ 15) × (t .stepped .asked ≤ 2)) (ltb k (length xs))
     (λ e. (passed-few q (getD xs k 0), asked-counted q (getD xs k 0) .0)) (λ e. (omega arith, omega arith))
+
+-- ---- how many a turn takes
+
+-- a stretch whose bytes are all there
+pub whole-stretch : (x : ℕ) (xs : List ℕ) → x < 16 → 17 ≤ length xs → turnOf (emptied x Collecting) xs .took ≡ 17
+unfolding turnOf
+whole-stretch x xs l h =
+    let r = emptied x Collecting in
+    let sixteen : onlyHeld r xs ≡ 16 =
+    counted r xs (ap (λ (t : Bool). t && awaitsMore 0) (in-range r l (omega arith) refl))
+    ∙ length-take-le 16 xs (omega (arith, h)) in
+    ap (λ (k : ℕ). cond (ltb k (length xs)) (oneMore r xs k) (still (behind r xs k) k) .took) sixteen
+    ∙ ap (λ (t : Bool). cond t (oneMore r xs 16) (still (behind r xs 16) 16) .took) (lt-ltb 16 (length xs) (omega (arith, h)))
+
+-- no bytes
+pub no-bytes : (r : Receiver) → (turnOf r [] .took ≡ 0) × (turnOf r [] .stepped .next ≡ r)
+unfolding turnOf
+no-bytes r =
+    let none : onlyHeld r [] ≡ 0 = omega (arith, few-there r []) in
+    let by : (k : ℕ) → Turn = λ k. cond (ltb k 0) (oneMore r [] k) (still (behind r [] k) k) in
+    (ap (λ (k : ℕ). by k .took) none, ap (λ (k : ℕ). by k .stepped .next) none)
+
+pub notes-many : (r : Receiver) (xs : List ℕ) → length (notesOf r xs) ≡ length xs
+notes-many r [] = refl
+notes-many r (x ∷ xs) = ap suc (notes-many (stepped r x .next) xs)

@@ -1,0 +1,19 @@
+-- The notes on a record, computed. Assumes nothing.
+use mathlib.Core.Path.{_≡_, refl}
+use mathlib.Core.List.{[], _∷_}
+use Rattle.division.specs.Division.{lowBits, bits, reduce, divide}
+use Rattle.parity.specs.Parity.{ones, even, allEven, withParity}
+use Rattle.validity.specs.Block.{codeBits, remainder, valid}
+use Rattle.validity.specs.Changed.{flip}
+use Rattle.reader.specs.Judging.{tryFrom, verdict, left}
+use Rattle.phases.specs.declared.Phase.the-variants.{Off, Collecting}
+use Rattle.receiver.specs.States.{emptied}
+use Rattle.turns.specs.Notes.{notesOf}
+use Rattle.turns.specs.Card.{recorded, notedDown}
+
+pub as-written : notesOf (emptied 0 Collecting) recorded ≡ notedDown
+unfolding lowBits bits reduce divide ones even allEven withParity codeBits remainder valid flip tryFrom verdict left
+as-written = refl
+
+pub while-off : notesOf (emptied 0 Off) (65 ∷ 200 ∷ []) ≡ 0 ∷ 0 ∷ []
+while-off = refl
