@@ -15,14 +15,11 @@ pub enum Verdict {
     WrongLength,
 }
 
-/// A remainder times x. Remainders are kept as byte 16 has them, power 6 at weight 1, so that nothing is mirrored and
-/// the first bit of a byte enters first.
-const fn times_x(remainder: u8) -> u8 {
-    // x^7 is x^3 + 1.
-    if remainder & 1 == 1 { remainder >> 1 ^ 0x48 } else { remainder >> 1 }
-}
+/// x^7 + x^3 + 1.
+const GENERATOR: u8 = 0b1000_1001;
 
-/// The remainder after a byte, at the remainder before it and the byte, added.
+/// The remainder after a byte, at the remainder before it and the byte, added. Since weight 1 of a byte is its highest
+/// power, remainders are mirrored here: power 6 has weight 1, and power 0 weight 64.
 static STEPS: [u8; 256] = steps();
 
 const fn steps() -> [u8; 256] {
@@ -32,11 +29,28 @@ const fn steps() -> [u8; 256] {
         let mut remainder = entering as u8;
         let mut bit = 0;
         while bit < 8 {
-            remainder = times_x(remainder);
+            let out = remainder & 1;
+            remainder >>= 1;
+            if out == 1 {
+                remainder ^= (GENERATOR & 127).reverse_bits() >> 1;
+            }
             bit += 1;
         }
         table[entering] = remainder;
         entering += 1;
+    }
+    table
+}
+
+/// A mirrored remainder as byte 16 has it: power 0 at weight 1.
+static MIRRORED: [u8; 128] = mirrored();
+
+const fn mirrored() -> [u8; 128] {
+    let mut table = [0; 128];
+    let mut remainder = 0;
+    while remainder < 128 {
+        table[remainder] = (remainder as u8).reverse_bits() >> 1;
+        remainder += 1;
     }
     table
 }
@@ -46,19 +60,22 @@ static PLACES: [u8; 128] = places();
 
 const fn places() -> [u8; 128] {
     let mut table = [MENDABLE; 128];
-    // That of power 0, the last bit.
-    let mut remainder = 64;
-    let mut place = MENDABLE;
-    while place > 0 {
-        place -= 1;
-        table[remainder as usize] = place;
-        remainder = times_x(remainder);
+    let mut remainder: u8 = 1;
+    let mut power = 0;
+    while power < MENDABLE {
+        // Powers 0 to 6 lie in byte 16, and the higher ones before it, the highest first.
+        table[remainder as usize] = if power < 7 { 120 + power } else { 126 - power };
+        remainder <<= 1;
+        if remainder > 127 {
+            remainder ^= GENERATOR;
+        }
+        power += 1;
     }
     table
 }
 
 fn remainder(useful: &[u8]) -> u8 {
-    useful.iter().fold(0, |remainder, byte| STEPS[(remainder ^ byte) as usize])
+    MIRRORED[useful.iter().fold(0, |remainder, byte| STEPS[(remainder ^ byte) as usize]) as usize]
 }
 
 /// Weight 1 of each byte whose parity is odd, all sixteen at once.
