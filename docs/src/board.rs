@@ -1,6 +1,6 @@
 //! One hut: line bytes through the receiver to the links, and on to the screen.
 
-use crate::links::{Links, MODEM, Outputs, SCREEN};
+use crate::links::{Links, Outputs, MODEM, SCREEN};
 use crate::receiver::{Heard, Receiver};
 use crate::screen::Screen;
 
@@ -13,10 +13,15 @@ pub struct Board {
 impl Board {
     /// Fresh, switched on and connected.
     pub fn connected() -> Board {
-        Board { receiver: Receiver::switched_on(), links: Links::connected(), screen: Screen::fresh() }
+        Board {
+            receiver: Receiver::switched_on(),
+            links: Links::connected(),
+            screen: Screen::fresh(),
+        }
     }
 
-    /// A piece of line bytes. The outputs are to be empty: what the screen gets is written on it at the end.
+    /// A piece of line bytes. The outputs are to be empty: what the screen gets is written on it at
+    /// the end.
     pub fn lines(&mut self, piece: &[u8], outputs: &mut Outputs, requests: &mut Vec<u8>) {
         let mut rest = piece;
         while !rest.is_empty() {

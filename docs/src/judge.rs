@@ -18,8 +18,9 @@ pub enum Verdict {
 /// x^7 + x^3 + 1.
 const GENERATOR: u8 = 0b1000_1001;
 
-/// The remainder after a byte, at the remainder before it and the byte, added. Since weight 1 of a byte is its highest
-/// power, remainders are mirrored here: power 6 has weight 1, and power 0 weight 64.
+/// The remainder after a byte, at the remainder before it and the byte, added. Since weight 1 of a
+/// byte is its highest power, remainders are mirrored here: power 6 has weight 1, and power 0
+/// weight 64.
 static STEPS: [u8; 256] = steps();
 
 const fn steps() -> [u8; 256] {
@@ -42,7 +43,7 @@ const fn steps() -> [u8; 256] {
     table
 }
 
-/// A mirrored remainder as byte 16 has it: power 0 at weight 1.
+/// A mirrored remainder as byte 16 has it: power 0 at weight 1 (docs/SOURCES.md).
 static MIRRORED: [u8; 128] = mirrored();
 
 const fn mirrored() -> [u8; 128] {
@@ -75,7 +76,11 @@ const fn places() -> [u8; 128] {
 }
 
 fn remainder(useful: &[u8]) -> u8 {
-    MIRRORED[useful.iter().fold(0, |remainder, byte| STEPS[(remainder ^ byte) as usize]) as usize]
+    let mut mirrored = 0;
+    for byte in useful {
+        mirrored = STEPS[(mirrored ^ byte) as usize];
+    }
+    MIRRORED[mirrored as usize]
 }
 
 /// Weight 1 of each byte whose parity is odd, all sixteen at once.

@@ -15,7 +15,11 @@ pub enum Unfinished {
     Free,
     Escape,
     /// PRO1, PRO2 or PRO3, which takes so many codes, with the first of them.
-    Command { takes: usize, taken: usize, codes: [u8; 3] },
+    Command {
+        takes: usize,
+        taken: usize,
+        codes: [u8; 3],
+    },
 }
 
 pub struct Links {
@@ -30,13 +34,16 @@ impl Links {
         rows[KEYBOARD] = 1 << MODEM;
         rows[MODEM] = 1 << SCREEN | 1 << SOCKET;
         rows[SOCKET] = 1 << MODEM;
-        Links { rows, unfinished: [Unfinished::Free; 4] }
+        Links {
+            rows,
+            unfinished: [Unfinished::Free; 4],
+        }
     }
 
     /// Values of 0 to 127 from a module that is heard for commands.
     #[inline]
     pub fn hear_all(&mut self, from: usize, values: &[u8], outputs: &mut Outputs) {
-        if matches!(self.unfinished[from], Unfinished::Free) && !values.iter().any(|&value| value == ESC) {
+        if matches!(self.unfinished[from], Unfinished::Free) && !values.contains(&ESC) {
             return self.pass(from, values, outputs);
         }
         for &value in values {
@@ -60,20 +67,33 @@ impl Links {
                 self.pass(from, &[value], outputs);
                 Unfinished::Free
             }
-            (Unfinished::Escape, 0x39..=0x3b) => {
-                Unfinished::Command { takes: (value - 0x38) as usize, taken: 0, codes: [0; 3] }
-            }
+            (Unfinished::Escape, 0x39..=0x3b) => Unfinished::Command {
+                takes: (value - 0x38) as usize,
+                taken: 0,
+                codes: [0; 3],
+            },
             (Unfinished::Escape, _) => {
                 self.pass(from, &[ESC, value], outputs);
                 Unfinished::Free
             }
-            (Unfinished::Command { takes, taken, mut codes }, _) => {
+            (
+                Unfinished::Command {
+                    takes,
+                    taken,
+                    mut codes,
+                },
+                _,
+            ) => {
                 codes[taken] = value;
                 if taken + 1 == takes {
                     self.obey(from, &codes[..takes], outputs);
                     Unfinished::Free
                 } else {
-                    Unfinished::Command { takes, taken: taken + 1, codes }
+                    Unfinished::Command {
+                        takes,
+                        taken: taken + 1,
+                        codes,
+                    }
                 }
             }
         };
@@ -84,7 +104,11 @@ impl Links {
         match *codes {
             [0x62, receiver @ 0x58..=0x5b] => self.reply(from, receiver, outputs),
             [0x60 | 0x61, receiver @ 0x58..=0x5b, sender @ 0x50..=0x53] => {
-                self.link(receiver as usize - 0x58, sender as usize - 0x50, codes[0] == 0x61);
+                self.link(
+                    receiver as usize - 0x58,
+                    sender as usize - 0x50,
+                    codes[0] == 0x61,
+                );
                 self.reply(from, receiver, outputs);
             }
             _ => {}

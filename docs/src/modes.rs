@@ -1,11 +1,12 @@
-//! What is done with a record: it is read in portions, and one part of the board, or the whole path, takes them.
+//! What is done with a record: it is read in portions, and one part of the board, or the whole
+//! path, takes them.
 
 use std::fs::File;
 use std::io::{Read, Result, Write};
 
 use crate::board::Board;
-use crate::judge::{BLOCK, VALUES, Verdict, judge as judge_block};
-use crate::links::{KEYBOARD, Links, MODEM, Outputs, SCREEN, SOCKET};
+use crate::judge::{judge as judge_block, Verdict, BLOCK, VALUES};
+use crate::links::{Links, Outputs, KEYBOARD, MODEM, SCREEN, SOCKET};
 use crate::receiver::{Heard, Receiver};
 use crate::screen::Screen;
 use crate::texts::{hex, verdict, write_bytes, write_links, write_receiver, write_screen};
@@ -13,7 +14,8 @@ use crate::texts::{hex, verdict, write_bytes, write_links, write_receiver, write
 /// As many whole blocks as groups of fifteen values.
 const PORTION: usize = 4080;
 
-/// As many bytes as an output may need for a portion: with sixteen bytes held before it, and five for each value.
+/// As many bytes as an output may need for a portion: with sixteen bytes held before it, and five
+/// for each value.
 const ROOM: usize = 5 * (PORTION + 16);
 
 /// Hands each portion of a file on, all of them full but the last.
@@ -59,8 +61,16 @@ impl Counts {
     }
 
     fn write(&self, out: &mut impl Write, name: &str) -> Result<()> {
-        let Counts { clean, mended, repeat, wrong_length } = self;
-        writeln!(out, "{name}: clean {clean}, mended {mended}, repeat {repeat}, wrong length {wrong_length}")
+        let Counts {
+            clean,
+            mended,
+            repeat,
+            wrong_length,
+        } = self;
+        writeln!(
+            out,
+            "{name}: clean {clean}, mended {mended}, repeat {repeat}, wrong length {wrong_length}"
+        )
     }
 }
 
@@ -122,7 +132,12 @@ pub fn receiver(file: &mut File, writing: bool, out: &mut impl Write) -> Result<
 const NAMES: [&str; 4] = ["screen", "keyboard", "modem", "socket"];
 
 /// Counts what each module got, writes it where that is wanted, and makes room for more.
-fn hand_out(outputs: &mut Outputs, given: &mut [usize; 4], writing: bool, out: &mut impl Write) -> Result<()> {
+fn hand_out(
+    outputs: &mut Outputs,
+    given: &mut [usize; 4],
+    writing: bool,
+    out: &mut impl Write,
+) -> Result<()> {
     for (module, output) in outputs.iter_mut().enumerate() {
         given[module] += output.len();
         if writing {
@@ -149,7 +164,10 @@ pub fn links(file: &mut File, writing: bool, out: &mut impl Write) -> Result<()>
         Ok(())
     })?;
     let [screen, keyboard, modem, socket] = given;
-    writeln!(out, "links: screen {screen}, keyboard {keyboard}, modem {modem}, socket {socket} bytes")?;
+    writeln!(
+        out,
+        "links: screen {screen}, keyboard {keyboard}, modem {modem}, socket {socket} bytes"
+    )?;
     write_links(out, &links)
 }
 
@@ -193,7 +211,10 @@ pub fn path(file: &mut File, writing: bool, out: &mut impl Write) -> Result<()> 
         Ok(())
     })?;
     let [keyboard, modem, socket] = [KEYBOARD, MODEM, SOCKET].map(|module| given[module]);
-    writeln!(out, "path: keyboard {keyboard}, modem {modem}, socket {socket}, requests {asked} bytes")?;
+    writeln!(
+        out,
+        "path: keyboard {keyboard}, modem {modem}, socket {socket}, requests {asked} bytes"
+    )?;
     write_board(out, &board)
 }
 

@@ -1,11 +1,14 @@
-//! The peer of the proved board, which shows what the proofs cost: the same rules in plain Rust without proofs, with
-//! mutable state, tables, and no copy of the screen. `./hut bench` builds it, runs it beside the proved program `bench`
-//! on the same records, and holds what both print to be the same; it is built by
-//! rustc --edition 2021 -O docs/src/peer.rs.
+//! The peer of the proved board, which shows what the proofs cost: the same rules in plain Rust
+//! without proofs, with mutable state, tables, and no copy of the screen. `./hut bench` builds it,
+//! runs it beside the proved program `bench` on the same records, and holds what both print to be
+//! the same; it is built by rustc --edition 2021 -O docs/src/peer.rs.
 //!
-//! peer MODE FILE...           plays each FILE by the MODE before it: read, judge, receiver, links, screen, path; with
-//!                             `write-` before the last five everything that is handed out is written too; memory
+//! peer MODE FILE...           plays each FILE by the MODE before it
 //! peer make KIND SEED BLOCKS  writes a record of that kind, plain or night, with so many blocks
+//!
+//! The modes are read, judge, receiver, links, screen and path; with `write-` before the last five,
+//! everything that is handed out is written too. The mode memory writes the line of a process's
+//! status that has its peak memory.
 //!
 //! judge.rs     a block made and judged
 //! receiver.rs  the line receiver
@@ -27,7 +30,7 @@ mod texts;
 
 use std::env;
 use std::fs::File;
-use std::io::{BufWriter, Error, ErrorKind, Result, Write, stdout};
+use std::io::{stdout, BufWriter, Error, ErrorKind, Result, Write};
 use std::process::ExitCode;
 
 const USAGE: &str = "usage: peer MODE FILE... | peer make (plain | night) SEED BLOCKS";
@@ -37,8 +40,11 @@ fn misused() -> Error {
 }
 
 fn play(mode: &str, name: &str, out: &mut impl Write) -> Result<()> {
-    let mut file = File::open(name).map_err(|error| Error::new(error.kind(), format!("{name}: {error}")))?;
-    let (writing, part) = mode.strip_prefix("write-").map_or((false, mode), |part| (true, part));
+    let mut file =
+        File::open(name).map_err(|error| Error::new(error.kind(), format!("{name}: {error}")))?;
+    let (writing, part) = mode
+        .strip_prefix("write-")
+        .map_or((false, mode), |part| (true, part));
     match (part, writing) {
         ("read", false) => modes::read(&mut file, out),
         ("judge", _) => modes::judge(&mut file, writing, out),

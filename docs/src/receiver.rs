@@ -1,7 +1,7 @@
-//! The line receiver: holds bytes until there are seventeen, judges the block, and asks for it again or hands on its
-//! values.
+//! The line receiver: holds bytes until there are seventeen, judges the block, and asks for it
+//! again or hands on its values.
 
-use crate::judge::{BLOCK, VALUES, Verdict, judge, with_parity};
+use crate::judge::{judge, with_parity, Verdict, BLOCK, VALUES};
 
 const NACK: u8 = 0x95;
 const SYN: u8 = 0x96;
@@ -30,7 +30,12 @@ pub enum Heard {
 
 impl Receiver {
     pub fn switched_on() -> Receiver {
-        Receiver { held: [0; BLOCK], count: 0, number: 0, phase: Phase::Collecting }
+        Receiver {
+            held: [0; BLOCK],
+            count: 0,
+            number: 0,
+            phase: Phase::Collecting,
+        }
     }
 
     fn number_code(&self) -> u8 {
@@ -43,7 +48,11 @@ impl Receiver {
             Phase::Collecting => {
                 self.held[self.count] = byte;
                 self.count += 1;
-                if self.count < BLOCK { Heard::Nothing } else { self.judge_held() }
+                if self.count < BLOCK {
+                    Heard::Nothing
+                } else {
+                    self.judge_held()
+                }
             }
             Phase::Waiting(seen) => {
                 self.listen(seen, byte);
@@ -52,11 +61,13 @@ impl Receiver {
         }
     }
 
-    /// Takes from the front of a piece that is not empty: a whole block where nothing is held, else a byte. Says how
-    /// many bytes it took.
+    /// Takes from the front of a piece that is not empty: a whole block where nothing is held, else
+    /// a byte. Says how many bytes it took.
     #[inline]
     pub fn take(&mut self, piece: &[u8]) -> (usize, Heard) {
-        if let (Phase::Collecting, 0, Some(block)) = (self.phase, self.count, piece.first_chunk::<BLOCK>()) {
+        if let (Phase::Collecting, 0, Some(block)) =
+            (self.phase, self.count, piece.first_chunk::<BLOCK>())
+        {
             self.held = *block;
             return (BLOCK, self.judge_held());
         }

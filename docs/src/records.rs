@@ -2,7 +2,7 @@
 
 use std::io::{Result, Write};
 
-use crate::judge::{BLOCK, VALUES, make, with_parity};
+use crate::judge::{make, with_parity, BLOCK, VALUES};
 use crate::links::ESC;
 
 /// splitmix64: the same numbers from the same seed, everywhere.
@@ -59,9 +59,14 @@ pub fn write_night(out: &mut impl Write, chance: &mut Chance, blocks: usize) -> 
     Ok(())
 }
 
-/// A block hit at two bits, the blocks that are on their way when the sender hears the request, and the codes with
-/// which it begins again.
-fn write_refused(out: &mut impl Write, chance: &mut Chance, sent: &[[u8; BLOCK]], number: usize) -> Result<()> {
+/// A block hit at two bits, the blocks that are on their way when the sender hears the request, and
+/// the codes with which it begins again.
+fn write_refused(
+    out: &mut impl Write,
+    chance: &mut Chance,
+    sent: &[[u8; BLOCK]],
+    number: usize,
+) -> Result<()> {
     let first = chance.below(136);
     let second = (first + 1 + chance.below(135)) % 136;
     out.write_all(&hit(hit(sent[0], first), second))?;
@@ -74,7 +79,11 @@ fn write_refused(out: &mut impl Write, chance: &mut Chance, sent: &[[u8; BLOCK]]
 
 /// One block in ten has one of its 127 code bits upset.
 fn hit_at_times(chance: &mut Chance, block: [u8; BLOCK]) -> [u8; BLOCK] {
-    if chance.once_in(10) { hit(block, chance.below(127)) } else { block }
+    if chance.once_in(10) {
+        hit(block, chance.below(127))
+    } else {
+        block
+    }
 }
 
 fn hit(mut block: [u8; BLOCK], bit: u64) -> [u8; BLOCK] {
@@ -97,7 +106,8 @@ fn paged_blocks(chance: &mut Chance, blocks: usize) -> Vec<[u8; BLOCK]> {
     made
 }
 
-/// A page as a host sends it: most of its lines are text or mosaics, some have a command or a code that is seldom sent.
+/// A page as a host sends it: most of its lines are text or mosaics, some have a command or a code
+/// that is seldom sent.
 fn add_page(page: &mut Vec<u8>, chance: &mut Chance) {
     page.push(0x0c);
     page.push(if chance.once_in(2) { 0x11 } else { 0x14 });
@@ -122,7 +132,11 @@ fn add_place(page: &mut Vec<u8>, row: u8, column: u8) {
 
 fn add_letters(page: &mut Vec<u8>, chance: &mut Chance, count: u8) {
     for _ in 0..count {
-        page.push(if chance.once_in(6) { b' ' } else { chance.code(0x41, 0x7a) });
+        page.push(if chance.once_in(6) {
+            b' '
+        } else {
+            chance.code(0x41, 0x7a)
+        });
     }
 }
 
@@ -169,9 +183,15 @@ fn add_signs(page: &mut Vec<u8>, chance: &mut Chance) {
     }
 }
 
-/// What a host does to a link and then undoes (6/0 clears, 6/1 sets; receiver, sender), so that the page is seen and the
-/// table stays that of a connected board: modem to socket, modem to keyboard, keyboard to screen, modem to itself.
-const LINKS: [[u8; 3]; 4] = [[0x60, 0x5b, 0x52], [0x61, 0x59, 0x52], [0x61, 0x58, 0x51], [0x61, 0x5a, 0x52]];
+/// What a host does to a link and then undoes (6/0 clears, 6/1 sets; receiver, sender), so that the
+/// page is seen and the table stays that of a connected board: modem to socket, modem to keyboard,
+/// keyboard to screen, modem to itself.
+const LINKS: [[u8; 3]; 4] = [
+    [0x60, 0x5b, 0x52],
+    [0x61, 0x59, 0x52],
+    [0x61, 0x58, 0x51],
+    [0x61, 0x5a, 0x52],
+];
 
 /// PRO1, PRO2 and PRO3.
 fn add_command(page: &mut Vec<u8>, chance: &mut Chance) {

@@ -19,7 +19,14 @@ pub struct Cell {
     pub inverse: bool,
 }
 
-const BLANK: Cell = Cell { set: G1, code: b' ', ink: 7, ground: 0, flash: false, inverse: false };
+const BLANK: Cell = Cell {
+    set: G1,
+    code: b' ',
+    ink: 7,
+    ground: 0,
+    flash: false,
+    inverse: false,
+};
 
 #[derive(Clone, Copy)]
 pub struct Attributes {
@@ -32,7 +39,14 @@ pub struct Attributes {
     pub inverse: bool,
 }
 
-const START: Attributes = Attributes { set: G0, ink: 7, ground: 0, waiting: None, flash: false, inverse: false };
+const START: Attributes = Attributes {
+    set: G0,
+    ink: 7,
+    ground: 0,
+    waiting: None,
+    flash: false,
+    inverse: false,
+};
 
 /// Rows count from 0, columns from 1.
 #[derive(Clone, Copy)]
@@ -105,18 +119,39 @@ impl Screen {
                 self.attributes.waiting = None;
             }
         }
-        let Attributes { ink, ground, flash, inverse, .. } = self.attributes;
-        self.cells[row as usize * COLUMNS + column as usize - 1] = Cell { set, code, ink, ground, flash, inverse };
+        let Attributes {
+            ink,
+            ground,
+            flash,
+            inverse,
+            ..
+        } = self.attributes;
+        self.cells[row as usize * COLUMNS + column as usize - 1] = Cell {
+            set,
+            code,
+            ink,
+            ground,
+            flash,
+            inverse,
+        };
         self.last = Some((set, code));
         self.right();
     }
 
     fn row_below(&self) -> u8 {
-        if self.place.row < 24 { self.place.row + 1 } else { 1 }
+        if self.place.row < 24 {
+            self.place.row + 1
+        } else {
+            1
+        }
     }
 
     fn row_above(&self) -> u8 {
-        if self.place.row > 1 { self.place.row - 1 } else { 24 }
+        if self.place.row > 1 {
+            self.place.row - 1
+        } else {
+            24
+        }
     }
 
     #[inline]
@@ -124,7 +159,10 @@ impl Screen {
         if self.place.column < 40 {
             self.place.column += 1;
         } else if self.place.row > 0 {
-            self.place = Place { row: self.row_below(), column: 1 };
+            self.place = Place {
+                row: self.row_below(),
+                column: 1,
+            };
         }
     }
 
@@ -132,7 +170,10 @@ impl Screen {
         if self.place.column > 1 {
             self.place.column -= 1;
         } else if self.place.row > 0 {
-            self.place = Place { row: self.row_above(), column: 40 };
+            self.place = Place {
+                row: self.row_above(),
+                column: 40,
+            };
         }
     }
 
@@ -156,7 +197,8 @@ impl Screen {
         self.attributes = START;
     }
 
-    /// A C0 code other than NUL: it ends what was unfinished and is obeyed, but for the code after SEP.
+    /// A C0 code other than NUL: it ends what was unfinished and is obeyed, but for the code after
+    /// SEP.
     fn control(&mut self, code: u8) {
         if let Sequence::Separator = self.sequence {
             self.sequence = Sequence::Free;
@@ -199,7 +241,9 @@ impl Screen {
             (Sequence::Escape, ..=0x2f) => self.sequence = Sequence::Long,
             (Sequence::Escape, 0x5b) => self.sequence = Sequence::Control,
             (Sequence::Escape, _) => self.pair(code),
-            (Sequence::Long, ..=0x2f | 0x7f..) | (Sequence::Control, ..=0x3f | 0x7f..) => self.sequence = sequence,
+            (Sequence::Long, ..=0x2f | 0x7f..) | (Sequence::Control, ..=0x3f | 0x7f..) => {
+                self.sequence = sequence
+            }
             (Sequence::Repeat, 0x40..) => self.repeat(code - 0x40),
             // An accent is swallowed.
             (Sequence::Single, 0x40..=0x4f) => {}
@@ -238,7 +282,10 @@ impl Screen {
         if row == 0x40 && self.place.row > 0 {
             self.kept = (self.place, self.attributes);
         }
-        self.place = Place { row: row - 0x40, column: column - 0x40 };
+        self.place = Place {
+            row: row - 0x40,
+            column: column - 0x40,
+        };
         self.attributes = START;
     }
 }

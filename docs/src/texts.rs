@@ -3,9 +3,9 @@
 use std::io::{Result, Write};
 
 use crate::judge::Verdict;
-use crate::links::{ESC, Links, MODEM, SOCKET, Unfinished};
+use crate::links::{Links, Unfinished, ESC, MODEM, SOCKET};
 use crate::receiver::{Phase, Receiver};
-use crate::screen::{Attributes, COLUMNS, Cell, Place, Screen, Sequence};
+use crate::screen::{Attributes, Cell, Place, Screen, Sequence, COLUMNS};
 
 pub fn hex(bytes: &[u8]) -> String {
     if bytes.is_empty() {
@@ -37,20 +37,27 @@ pub fn write_receiver(out: &mut impl Write, receiver: &Receiver) -> Result<()> {
         Phase::Waiting(seen) => format!("waiting {seen}"),
     };
     let held = hex(&receiver.held[..receiver.count]);
-    writeln!(out, "receiver: {phase}, number {}, held {held}", receiver.number)
+    writeln!(
+        out,
+        "receiver: {phase}, number {}, held {held}",
+        receiver.number
+    )
 }
 
 fn unfinished(unfinished: Unfinished) -> String {
     match unfinished {
         Unfinished::Free => hex(&[]),
         Unfinished::Escape => hex(&[ESC]),
-        Unfinished::Command { takes, taken, codes } => {
-            hex(&[&[ESC, 0x38 + takes as u8], &codes[..taken]].concat())
-        }
+        Unfinished::Command {
+            takes,
+            taken,
+            codes,
+        } => hex(&[&[ESC, 0x38 + takes as u8], &codes[..taken]].concat()),
     }
 }
 
-/// A row for each sender, a mark in it for each receiver, in the order screen, keyboard, modem, socket.
+/// A row for each sender, a mark in it for each receiver, in the order screen, keyboard, modem,
+/// socket.
 pub fn write_links(out: &mut impl Write, links: &Links) -> Result<()> {
     write!(out, "links:")?;
     for row in links.rows {
@@ -62,16 +69,46 @@ pub fn write_links(out: &mut impl Write, links: &Links) -> Result<()> {
 }
 
 fn write_cell(out: &mut impl Write, cell: &Cell) -> Result<()> {
-    let Cell { set, code, ink, ground, flash, inverse } = cell;
-    write!(out, "{set}{code:02x}{ink}{ground}{}{}", *flash as u8, *inverse as u8)
+    let Cell {
+        set,
+        code,
+        ink,
+        ground,
+        flash,
+        inverse,
+    } = cell;
+    write!(
+        out,
+        "{set}{code:02x}{ink}{ground}{}{}",
+        *flash as u8, *inverse as u8
+    )
 }
 
-fn write_spot(out: &mut impl Write, name: &str, place: Place, attributes: Attributes) -> Result<()> {
+fn write_spot(
+    out: &mut impl Write,
+    name: &str,
+    place: Place,
+    attributes: Attributes,
+) -> Result<()> {
     let Place { row, column } = place;
-    let Attributes { set, ink, ground, waiting, flash, inverse } = attributes;
+    let Attributes {
+        set,
+        ink,
+        ground,
+        waiting,
+        flash,
+        inverse,
+    } = attributes;
     let waiting = waiting.map_or("-".to_string(), |colour| colour.to_string());
-    write!(out, "{name}: row {row}, column {column}, set {set}, ink {ink}, ground {ground}, ")?;
-    writeln!(out, "waiting {waiting}, flash {}, inverse {}", flash as u8, inverse as u8)
+    write!(
+        out,
+        "{name}: row {row}, column {column}, set {set}, ink {ink}, ground {ground}, "
+    )?;
+    writeln!(
+        out,
+        "waiting {waiting}, flash {}, inverse {}",
+        flash as u8, inverse as u8
+    )
 }
 
 fn sequence(sequence: Sequence) -> String {
@@ -88,7 +125,8 @@ fn sequence(sequence: Sequence) -> String {
     }
 }
 
-/// Every cell in seven digits, a row to a line (set, code, ink, ground, flash, inverse), and the rest of the screen.
+/// Every cell in seven digits, a row to a line (set, code, ink, ground, flash, inverse), and the
+/// rest of the screen.
 pub fn write_screen(out: &mut impl Write, screen: &Screen) -> Result<()> {
     for (row, cells) in screen.cells.chunks(COLUMNS).enumerate() {
         write!(out, "row {row} ")?;
@@ -99,6 +137,13 @@ pub fn write_screen(out: &mut impl Write, screen: &Screen) -> Result<()> {
     }
     write_spot(out, "pen", screen.place, screen.attributes)?;
     write_spot(out, "kept", screen.kept.0, screen.kept.1)?;
-    let last = screen.last.map_or("-".to_string(), |(set, code)| format!("{set}{code:02x}"));
-    writeln!(out, "last {last}, unfinished {}, shown {}", sequence(screen.sequence), screen.shown as u8)
+    let last = screen
+        .last
+        .map_or("-".to_string(), |(set, code)| format!("{set}{code:02x}"));
+    writeln!(
+        out,
+        "last {last}, unfinished {}, shown {}",
+        sequence(screen.sequence),
+        screen.shown as u8
+    )
 }
