@@ -1,6 +1,6 @@
 // What `./hut bench` measures: a record is read in portions, and one part of the board, or the whole path, takes them.
-// At its end a mode prints its counts and the state that it came to, in the words of the peer, docs/src/peer.rs, so that
-// any difference shows. Its arguments are pairs of a mode and a file, obeyed in turn: `read`, `judge`, `receiver`,
+// At its end a mode prints its counts and the state that it came to, in the words of the peer, docs/src/peer.rs, so
+// that any difference shows. Its arguments are pairs of a mode and a file, obeyed in turn: `read`, `judge`, `receiver`,
 // `links`, `screen` and `path`; with `write-` before the last five, everything that is handed out is written too, in
 // order; `memory` writes the line of a process's status that has its peak memory.
 //
@@ -34,8 +34,8 @@ fn write_usage() {
     io::write_all(libc::STDERR_FILENO, b"usage: bench (MODE FILE)...\n");
 }
 
-// Plays an open file by a mode.
-fn play(part: &[u8], fd: i32, writing: bool) {
+// Plays an open file by a mode, of which `part` is what stands behind `write-`, where it is a writing one.
+fn play(mode: &[u8], part: &[u8], fd: i32, writing: bool) {
     if is(part, b"judge") {
         judging::judge(fd, writing);
     } else if is(part, b"receiver") {
@@ -46,9 +46,9 @@ fn play(part: &[u8], fd: i32, writing: bool) {
         screening::show(fd, writing);
     } else if is(part, b"path") {
         boarding::hear(fd, writing);
-    } else if is(part, b"read") {
+    } else if is(mode, b"read") {
         portions::read(fd);
-    } else if is(part, b"memory") {
+    } else if is(mode, b"memory") {
         memory::write_peak(fd);
     } else {
         write_usage();
@@ -61,10 +61,11 @@ fn obey(mode: &[u8], name: &[u8]) {
     let part = if writing { after_start(mode, 6) } else { mode };
     let fd = os::open_read(name);
     if fd < 0 {
+        io::write_all(libc::STDERR_FILENO, b"bench: ");
         os::fail(name);
         return;
     }
-    play(part, fd, writing);
+    play(mode, part, fd, writing);
     libc::close(fd);
 }
 
