@@ -1,0 +1,75 @@
+-- `bench::portions::read` is safe and ends. Assumes nothing.
+use mathlib.Core.Path.{_≡_}
+use lib.ListN.{length}
+use borrow.Author.Needs.{needs}
+use Rattle.bench.proofs.portions.read.Statement.{statement}
+use Rattle.bench.proofs.portions.read.Tie as tie
+
+abbrev Inv-loop : tie.InvT-loop
+Inv-loop fd portion₀ bytes₀ n₀ turns₀ t6 t7 portion bytes n turns = length portion ≡ 4080
+
+abbrev μ-loop : tie.MeasureT-loop
+μ-loop fd portion₀ bytes₀ n₀ turns₀ t6 t7 portion bytes n turns = turns
+
+slice-aggregate-read-full : tie.Need-slice-aggregate-read-full Inv-loop μ-loop
+slice-aggregate-read-full c = search needs
+
+read-full-requires : tie.Need-read-full-requires Inv-loop μ-loop
+read-full-requires c κs = search needs
+
+loop-holds : tie.Need-loop-holds Inv-loop μ-loop
+loop-holds c = search needs
+
+sum-requires : tie.Need-sum-requires Inv-loop μ-loop
+sum-requires c κs = search needs
+
+slice-aggregate-read-full-2 : tie.Need-slice-aggregate-read-full-2 Inv-loop μ-loop
+slice-aggregate-read-full-2 c = search needs
+
+read-full-requires-2 : tie.Need-read-full-requires-2 Inv-loop μ-loop
+read-full-requires-2 c κs = search needs
+
+sub-turns : tie.Need-sub-turns Inv-loop μ-loop
+sub-turns c = search needs
+
+loop-less : tie.Need-loop-less Inv-loop μ-loop
+loop-less c = search needs
+
+loop-again : tie.Need-loop-again Inv-loop μ-loop
+loop-again c = search needs
+
+slice-aggregate-put-number : tie.Need-slice-aggregate-put-number Inv-loop μ-loop
+slice-aggregate-put-number c = search needs
+
+put-number-requires : tie.Need-put-number-requires Inv-loop μ-loop
+put-number-requires c κs = search needs
+
+slice-aggregate-put : tie.Need-slice-aggregate-put Inv-loop μ-loop
+slice-aggregate-put c = search needs
+
+put-requires : tie.Need-put-requires Inv-loop μ-loop
+put-requires c κs = search needs
+
+returns : tie.Need-returns Inv-loop μ-loop
+returns c = search needs
+
+pub read-spec : {M : Type 1} → statement M
+read-spec =
+    tie.close
+    (tie.spec
+    Inv-loop
+    μ-loop
+    slice-aggregate-read-full
+    read-full-requires
+    loop-holds
+    sum-requires
+    slice-aggregate-read-full-2
+    read-full-requires-2
+    sub-turns
+    loop-less
+    loop-again
+    slice-aggregate-put-number
+    put-number-requires
+    slice-aggregate-put
+    put-requires
+    returns)

@@ -1,0 +1,129 @@
+// The state of a screen as text: every cell in seven digits, a row to a line, and the pen.
+use crate::texts::add;
+use crate::texts::after_start;
+use crate::texts::digit;
+use crate::texts::first;
+use crate::texts::put;
+use crate::texts::put_bytes;
+use crate::texts::put_number;
+use attributes::Attributes;
+use attributes::Waiting;
+use cells::Cell;
+use cursor::Place;
+use page::Screen;
+use pen::Last;
+use pen::Pen;
+use sequences::Sequence;
+
+// Set, code, ink, ground, flash and inverse.
+fn spelled(cell: Cell) -> [u8; 7] {
+    [
+        digit(cell.set),
+        digit(cell.code / 16),
+        digit(cell.code),
+        digit(cell.ink),
+        digit(cell.ground),
+        digit(cell.flash as u8),
+        digit(cell.inverse as u8),
+    ]
+}
+
+// The seven digits of each of a thousand cells.
+const DIGITS: usize = 7000;
+
+fn spell(cells: [Cell; 1000], text: &mut [u8; DIGITS]) {
+    let mut at = 0;
+    let mut i = 0;
+    while i < 1000 {
+        let seven = spelled(cells[i]);
+        at = add(&seven, text, at);
+        i += 1;
+    }
+}
+
+// A row of forty cells.
+fn put_row(text: &[u8; DIGITS], row: u64) {
+    put_number(b"row ", row);
+    put(b" ");
+    put(first(after_start(text, row_start(row)), 280));
+    put(b"\n");
+}
+
+// Where the digits of a row begin.
+fn row_start(row: u64) -> usize {
+    (row % 25) as usize * 280
+}
+
+fn put_rows(cells: [Cell; 1000]) {
+    let mut text = [0u8; DIGITS];
+    let mut row = 0;
+    spell(cells, &mut text);
+    while row < 25 {
+        put_row(&text, row);
+        row += 1;
+    }
+}
+
+fn put_attributes(a: Attributes) {
+    let waiting = a.waiting;
+    put_number(b", set ", a.set as u64);
+    put_number(b", ink ", a.ink as u64);
+    put_number(b", ground ", a.ground as u64);
+    match waiting {
+        Waiting::Nothing => put(b", waiting -"),
+        Waiting::Ground(colour) => put_number(b", waiting ", colour as u64),
+    }
+    put_number(b", flash ", a.flash as u64);
+    put_number(b", inverse ", a.inverse as u64);
+}
+
+fn put_spot(name: &[u8], place: Place, attributes: Attributes) {
+    put(name);
+    put_number(b": row ", place.row as u64);
+    put_number(b", column ", place.column as u64);
+    put_attributes(attributes);
+    put(b"\n");
+}
+
+fn put_last(last: Last) {
+    match last {
+        Last::Never => put(b"last -"),
+        Last::Character { set, code } => {
+            put_number(b"last ", set as u64);
+            put_bytes(b"", &[code]);
+        }
+    }
+}
+
+fn put_sequence(sequence: Sequence) {
+    put(b", unfinished ");
+    match sequence {
+        Sequence::Free => put(b"-"),
+        Sequence::Escape => put(b"esc"),
+        Sequence::Long => put(b"long"),
+        Sequence::Control => put(b"control"),
+        Sequence::Separator => put(b"sep"),
+        Sequence::Repeat => put(b"rep"),
+        Sequence::Single => put(b"ss2"),
+        Sequence::Address => put(b"us"),
+        Sequence::Row(code) => put_bytes(b"us ", &[code]),
+    }
+}
+
+fn put_pen(pen: Pen) {
+    let kept = pen.kept;
+    let last = pen.last;
+    let sequence = pen.sequence;
+    put_spot(b"pen", pen.place, pen.attributes);
+    put_spot(b"kept", kept.place, kept.attributes);
+    put_last(last);
+    put_sequence(sequence);
+    put_number(b", shown ", pen.shown as u64);
+    put(b"\n");
+}
+
+pub(crate) fn put_screen(screen: Screen) {
+    let cells = screen.cells;
+    put_rows(cells);
+    put_pen(screen.pen);
+}
