@@ -3,7 +3,7 @@
 // crates/board/specs/Runs.antt and of Pieces.antt, Claims.antt and Cuts.antt in crates/pieces/specs, and each is proved
 // in the crate whose words it speaks. specs/Example is one page in bytes.
 ghost use mathlib.Core.Path.{_≡_};
-ghost use mathlib.Core.Bool.{true, false, cond};
+ghost use mathlib.Core.Bool.{Bool, true, false, cond};
 ghost use mathlib.Core.List.{List, [], _∷_, _++_, map};
 ghost use Prim.Native.Nat.{ℕ, _≤_, _<_};
 ghost use lib.ListN.{length, replicate};
@@ -40,6 +40,9 @@ ghost use Rattle.front.specs.declared.Room.{Room};
 ghost use Rattle.front.specs.declared.Front.{Front};
 ghost use Rattle.front.specs.Hearing.{heardBy, unheard};
 ghost use Rattle.pieces.specs.Pieces.{told as pieceTold, linesOf, linesTold, isTaken, singly, handed, asked};
+ghost use Rattle.pieces.specs.Pieces.{refused as pieceRefused};
+ghost use Rattle.pieces.specs.declared.Answer.the-variants.{NoRoom, Broken as PieceBroken};
+ghost use Rattle.pieces.specs.Noted.{noted, notedOf, notedTold, isNoted};
 ghost use Rattle.pieces.specs.Claims.{TakenWhole, NothingTaken, RoomFor};
 ghost use Rattle.pieces.specs.Playing.{frontOf};
 ghost use Rattle.pieces.specs.Cuts.{secondTaken, InTwo};
@@ -151,6 +154,22 @@ pub fn a_piece_gives_its_number()
         × (inRange b ≡ true → RoomFor b xs r → isTaken b xs r ≡ true)) ⌝ }
     ensures whole { λ _. ⌜ ((b : Board) (xs : List ℕ) (r : Room) → isTaken b xs r ≡ true → TakenWhole b xs r) ⌝ }
     ensures kept { λ _. ⌜ ((b : Board) (xs : List ℕ) (r : Room) → isTaken b xs r ≡ false → NothingTaken b xs r) ⌝ }
+{}
+
+// A piece with notes: 5 where any part is out of range, then 4 where an output lacks room, that of the notes among them,
+// and else 0. Where it has a place for each byte, the piece comes to what it comes to without notes, and is taken where
+// it is then; where it has fewer, nothing is taken and nothing counts as written. The notes on the parts of a piece are
+// those on the whole.
+pub fn a_piece_with_notes_is_that_piece()
+    ensures { λ _. ⌜ ((b : Board) (xs : List ℕ) (r : Room) (n : ℕ)
+        → pieceTold (notedOf b xs r n .answer) ≡ notedTold b xs r n) ⌝ }
+    ensures places { λ _. ⌜ ((b : Board) (xs : List ℕ) (r : Room) (n : ℕ) → length xs ≤ n
+        → (linesOf b xs r ≡ notedOf b xs r n) × (isTaken b xs r ≡ isNoted b xs r n)) ⌝ }
+    ensures fewer { λ _. ⌜ ((b : Board) (xs : List ℕ) (r : Room) (n : ℕ) → n < length xs
+        → (isNoted b xs r n ≡ false)
+        × ((t : Bool) → inRange b ≡ t → cond t (pieceRefused b NoRoom) (pieceRefused b PieceBroken) ≡ notedOf b xs r n)) ⌝ }
+    ensures cut { λ _. ⌜ ((b : Board) → InBoard b → (xs ys : List ℕ)
+        → noted b (xs ++ ys) ≡ noted b xs ++ noted (run b (singly xs)) ys) ⌝ }
 {}
 
 // However a piece is cut in two, two calls come to what one comes to, the second being lent what stands behind what the

@@ -2,9 +2,9 @@ pub mod Written
 pub mod Spread
 pub mod SoFar
 pub mod Gathered
-pub mod Noting
 pub mod Single
 pub mod Numbered
+pub mod Noting
 pub mod Taken
 pub mod Cut
 pub mod Shown

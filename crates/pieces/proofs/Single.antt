@@ -57,10 +57,13 @@ module _ (b : Board) (i : InBoard b) (xs : List ℕ) where
   yields-is : yields b xs ≡ needed (frontOf b) xs
   yields-is = simp (handed-is Keyboard tt, handed-is Modem tt, handed-is Socket tt, asked-is)
 
+  pub receiver-is : run b (singly xs) .receiver ≡ receiverRun (b .receiver) (bytes xs)
+  receiver-is = apart (singly xs) b i .receiver ∙ ap (receiverRun (b .receiver)) (heard-singly xs)
+
   run-is : run b (singly xs) ≡ heardWhole b xs
   run-is =
       let a = apart (singly xs) b i in
-      let r = a .receiver ∙ ap (receiverRun (b .receiver)) (heard-singly xs) in
+      let r = receiver-is in
       let l = a .links ∙ ap (linksRun (b .links)) cs in
       let s = a .screen ∙ ap (λ (ds : List Call). ran (b .screen) (got Screen (b .links) ds) .screen) cs in
       ap₂ (λ (x : Receiver) (y : Links). record { receiver = x; links = y; screen = run b (singly xs) .screen }) r l
