@@ -1,4 +1,4 @@
-// The mode `receiver`: each byte by a step of a receiver that is switched on.
+// The mode `receiver`: a receiver that is switched on takes a portion turn by turn, as the board's does.
 use crate::judging::Counts;
 use crate::judging::counted;
 use crate::judging::nothing;
@@ -15,6 +15,7 @@ use reader::Verdict;
 use receiver::Judged;
 use receiver::Receiver;
 use receiver::Stepped;
+use turns::take_turn;
 
 // A receiver, what it judged, and how many bytes it handed out.
 struct Heard {
@@ -49,8 +50,7 @@ fn put_block(verdict: Verdict, done: Stepped) {
     put(b"\n");
 }
 
-fn step(mut heard: Heard, byte: u8, writing: bool) -> Heard {
-    let done = heard.receiver.step(byte);
+fn taken(mut heard: Heard, done: Stepped, writing: bool) -> Heard {
     let next = done.next;
     let judged = done.judged;
     heard.receiver = next;
@@ -66,12 +66,19 @@ fn step(mut heard: Heard, byte: u8, writing: bool) -> Heard {
     heard
 }
 
-fn step_all(start: Heard, portion: &[u8], writing: bool) -> Heard {
+// A portion, turn by turn; there are no more of them than bytes.
+fn take_all(start: Heard, portion: &[u8], writing: bool) -> Heard {
     let mut heard = start;
     let mut i = 0;
-    while i < portion.len() {
-        heard = step(heard, portion[i], writing);
-        i += 1;
+    let mut most = portion.len();
+    while most > 0 {
+        if i >= portion.len() {
+            return heard;
+        }
+        let turn = take_turn(heard.receiver, &portion[i..]);
+        heard = taken(heard, turn.stepped, writing);
+        i = std::num::wrapping_add_usize(i, turn.took);
+        most -= 1;
     }
     heard
 }
@@ -82,7 +89,7 @@ pub(crate) fn receive(fd: i32, writing: bool) {
     let mut n = io::read_full(fd, &mut portion);
     let mut turns = u64::MAX;
     while turns > 0 && n > 0 {
-        heard = step_all(heard, first(&portion, n), writing);
+        heard = take_all(heard, first(&portion, n), writing);
         n = io::read_full(fd, &mut portion);
         turns -= 1;
     }

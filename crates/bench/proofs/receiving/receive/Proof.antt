@@ -30,8 +30,8 @@ slice-aggregate-first c = search needs
 first-requires : tie.Need-first-requires Inv-loop μ-loop
 first-requires c κs = search needs
 
-step-all-requires : tie.Need-step-all-requires Inv-loop μ-loop
-step-all-requires c κs = search needs
+take-all-requires : tie.Need-take-all-requires Inv-loop μ-loop
+take-all-requires c κs = search needs
 
 slice-aggregate-read-full-2 : tie.Need-slice-aggregate-read-full-2 Inv-loop μ-loop
 slice-aggregate-read-full-2 c = search needs
@@ -93,7 +93,7 @@ receive-spec =
     loop-holds
     slice-aggregate-first
     first-requires
-    step-all-requires
+    take-all-requires
     slice-aggregate-read-full-2
     read-full-requires-2
     sub-turns
