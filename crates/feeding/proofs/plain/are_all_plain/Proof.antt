@@ -1,15 +1,13 @@
 -- `feeding::plain::are_all_plain` meets its contract. Assumes nothing.
-use mathlib.Core.Path.{_≡_, refl, sym, ap, _∙_}
-use mathlib.Core.Bool.{Bool, _&&_, not}
-use mathlib.Core.List.{List}
+use mathlib.Core.Path.{_≡_, refl, sym, ap₂, ap, _∙_}
+use mathlib.Core.Bool.{Bool, _&&_}
 use Prim.Native.Nat.{ℕ, _-_, _≤_, zero-le}
 use native.Mathlib.Omega.{arith}
-use lib.Dec.{ltb, eqb}
-use lib.ListN.{length, take, getD}
+use lib.ListN.{length, take}
 use lib.Seq.{take-all}
 use borrow.Author.Needs.{needs}
 use Rattle.feeding.specs.Plain.{allPlain}
-use Rattle.feeding.proofs.Passed.{and-assoc, plain-further}
+use Rattle.feeding.proofs.Passed.{plain-further}
 use Rattle.feeding.proofs.plain.are_all_plain.Statement.{statement}
 use Rattle.feeding.proofs.plain.are_all_plain.Tie as tie
 
@@ -19,40 +17,31 @@ Inv-loop values plain₀ i₀ plain i = (i ≤ 15) × (length values ≡ 15) × 
 abbrev μ-loop : tie.MeasureT-loop
 μ-loop values plain₀ i₀ plain i = 15 - i
 
--- src/plain.rt:22:5
 loop-holds : tie.Need-loop-holds Inv-loop μ-loop
 loop-holds c = (zero-le, search needs, refl)
 
--- src/plain.rt:23:26
-array-read-plain : tie.Need-array-read-plain Inv-loop μ-loop
-array-read-plain c = omega arith
+array-read-is-plain-value : tie.Need-array-read-is-plain-value Inv-loop μ-loop
+array-read-is-plain-value c = omega arith
 
--- src/plain.rt:23:46
-array-read-plain-2 : tie.Need-array-read-plain-2 Inv-loop μ-loop
-array-read-plain-2 c = omega arith
+is-plain-value-requires : tie.Need-is-plain-value-requires Inv-loop μ-loop
+is-plain-value-requires c κs = tt
 
--- src/plain.rt:24:9
 add-i : tie.Need-add-i Inv-loop μ-loop
 add-i c = search needs
 
--- src/plain.rt:22:5
 loop-less : tie.Need-loop-less Inv-loop μ-loop
 loop-less c = omega arith
 
--- src/plain.rt:22:5
 loop-again : tie.Need-loop-again Inv-loop μ-loop
 loop-again c =
-    let l = c .before .loop in
-    let vs = c .before .before .args .t1 in
-    let v : ℕ = getD vs (l .i) 0 in (
+    let l = c .before .before .loop in
+    let vs = c .before .before .before .args .t1 in (
       omega arith,
       l .inv .1,
-      ap (λ (t : Bool). (t && ltb v 128) && not (eqb v 27)) (l .inv .2)
-          ∙ sym (and-assoc (allPlain (take (l .i) vs)) (ltb v 128) (not (eqb v 27)))
+      ap₂ (λ (s t : Bool). s && t) (l .inv .2) (c .is-plain-value .ensures)
           ∙ sym (plain-further vs (l .i) (omega (arith, l .inv .1))),
     )
 
--- src/plain.rt:17:1
 returns : tie.Need-returns Inv-loop μ-loop
 returns c =
     let l = c .before .loop in
@@ -66,8 +55,8 @@ are-all-plain-spec =
     Inv-loop
     μ-loop
     loop-holds
-    array-read-plain
-    array-read-plain-2
+    array-read-is-plain-value
+    is-plain-value-requires
     add-i
     loop-less
     loop-again

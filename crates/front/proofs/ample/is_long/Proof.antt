@@ -1,6 +1,5 @@
 -- `front::ample::is_long` meets its contract. Assumes nothing.
 use mathlib.Core.Path.{_≡_, sym}
-use Prim.Native.Nat.{_/_, _-_}
 use native.Mathlib.Omega.{arith}
 use borrow.Author.Tests.{leb-true}
 use Rattle.laws.proofs.Computed.{fails}
@@ -13,7 +12,7 @@ returns c = λ e. absurd (fails (sym e) tt)
 returns-2 : tie.Need-returns-2
 returns-2 c =
     let a = c .before .args in
-    λ e. omega (arith, leb-true (a .n) (a .room / 5 - 16) e, c .if1 .left)
+    λ e. omega (arith, leb-true (a .n) _ e, c .if1 .left)
 
 pub is-long-spec : {M : Type 1} → statement M
 is-long-spec = tie.close (tie.spec returns returns-2)
