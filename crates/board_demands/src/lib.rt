@@ -38,6 +38,7 @@ ghost use Rattle.board.specs.Runs.{handedTo, requests, heardIn, callsIn, Outsid
 ghost use Rattle.board.specs.Runs.{Goes, InBoard, Unmoved, tooLarge, callTold};
 ghost use Rattle.front.specs.declared.Room.{Room};
 ghost use Rattle.front.specs.declared.Front.{Front};
+ghost use Rattle.front.specs.Ample.{Ample};
 ghost use Rattle.front.specs.Hearing.{heardBy, unheard};
 ghost use Rattle.pieces.specs.Pieces.{told as pieceTold, linesOf, linesTold, isTaken, singly, handed, asked};
 ghost use Rattle.pieces.specs.Pieces.{refused as pieceRefused};
@@ -154,6 +155,13 @@ pub fn a_piece_gives_its_number()
         × (inRange b ≡ true → RoomFor b xs r → isTaken b xs r ≡ true)) ⌝ }
     ensures whole { λ _. ⌜ ((b : Board) (xs : List ℕ) (r : Room) → isTaken b xs r ≡ true → TakenWhole b xs r) ⌝ }
     ensures kept { λ _. ⌜ ((b : Board) (xs : List ℕ) (r : Room) → isTaken b xs r ≡ false → NothingTaken b xs r) ⌝ }
+{}
+
+// Outputs that surely suffice, whatever the bytes: for a piece of n on a board in range, five places for each of n and
+// sixteen for keyboard, modem and socket, and two for each of n for requests. The piece is then taken.
+pub fn such_outputs_surely_suffice()
+    ensures { λ _. ⌜ ((b : Board) → InBoard b → (xs : List ℕ) (r : Room) → Ample (length xs) r
+        → isTaken b xs r ≡ true) ⌝ }
 {}
 
 // A piece with notes: 5 where any part is out of range, then 4 where an output lacks room, that of the notes among them,

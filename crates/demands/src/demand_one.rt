@@ -24,7 +24,9 @@ pub use link_demands::states::every_call_keeps_the_range as every_call_of_the_li
 
 // the board: 5 and 2; for a piece of line bytes 5 and 4
 pub use board_demands::a_piece_gives_its_number;
+pub use board_demands::a_piece_with_notes_is_that_piece;
 pub use board_demands::each_call_gives_its_number as each_call_of_a_board_gives_its_number;
 pub use board_demands::every_event_keeps_the_range as every_event_of_a_board_keeps_the_range;
 pub use board_demands::hearing_is_the_call_without_its_number;
 pub use board_demands::seventy_five_places_suffice;
+pub use board_demands::such_outputs_surely_suffice;

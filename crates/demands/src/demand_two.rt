@@ -10,6 +10,8 @@ pub use block_demands::demand_two::what_the_maker_writes_the_reader_hands_back;
 
 // the receiver: a repeat request names the awaited block; between two switchings the number moves only when a block is
 // accepted
+pub use line_demands::pieces::a_turn_is_its_bytes_one_by_one;
+pub use line_demands::pieces::the_notes_say_what_each_byte_was;
 pub use line_demands::runs::a_request_names_the_awaited_block;
 pub use line_demands::runs::a_run_is_the_run_over_its_parts;
 pub use line_demands::runs::every_run_follows_the_page;

@@ -6,7 +6,7 @@ use Prim.Native.Nat.{ℕ, zero, suc, _+_, _-_, _≤_, _<_, zero-le}
 use native.Mathlib.Numerals.{unary-clauses}
 use native.Mathlib.Omega.{arith}
 use lib.ListN.{length, take, drop, replicate, length-append}
-use lib.Seq.{take-all, length-take-le, take-append-seam, drop-append-add, paste, paste-zero}
+use lib.Seq.{take-all, length-take-le, take-append-seam, drop-append-add, paste}
 use Rattle.laws.proofs.Computed.{apart}
 use Rattle.wiring.specs.declared.Module.{Module}
 use Rattle.wiring.specs.declared.Module.the-variants.{Screen, Keyboard, Modem, Socket}
@@ -14,7 +14,7 @@ use Rattle.sending.specs.declared.Bytes.{Bytes}
 use Rattle.sending.specs.declared.Sent.{Sent}
 use Rattle.sending.specs.Sending.{bytesOf, partOf, gets}
 use Rattle.feeding.specs.declared.Outlet.{Outlet}
-use Rattle.feeding.specs.Feeding.{outlet, contents, sharesOf, extended, appended, gathered}
+use Rattle.feeding.specs.Feeding.{outlet, contents, sharesOf, appended, gathered}
 
 -- no more are taken than there are
 pub taken-most : (n : ℕ) (vs : List ℕ) → length (take n vs) ≤ length vs
@@ -50,7 +50,7 @@ held vs = take-append-seam vs (replicate (75 - length vs) 0)
 
 -- ---- bytes behind what is held, and 0 past them
 
-drop-zeros : (n k : ℕ) → drop {A = ℕ} n (replicate k 0) ≡ replicate (k - n) 0
+pub drop-zeros : (n k : ℕ) → drop {A = ℕ} n (replicate k 0) ≡ replicate (k - n) 0
 drop-zeros zero k = simp unary-clauses
 drop-zeros (suc n) zero =
     let e : 0 ≡ 0 - suc n = omega arith in ap (λ (k : ℕ). replicate {A = ℕ} k 0) e
@@ -72,7 +72,3 @@ gathers g s =
     let at : (m : Module) → appended (outlet (g m)) (partOf s m) ≡ outlet (g m ++ gets s m) =
     λ m. behind (g m) (partOf s m) in
     simp (at Screen, at Keyboard, at Modem, at Socket)
-
-pub none-more : (o : Outlet) → o ≡ extended o []
-none-more o =
-    ap₂ (λ (cs : List ℕ) (n : ℕ). record { codes = cs; count = n }) (paste-zero (o .codes) (o .count) []) (omega arith)

@@ -22,8 +22,7 @@ use Rattle.links.specs.Runs.{value, run, PassedOn}
 use Rattle.links.proofs.Ranges.{tested}
 use Rattle.links.proofs.Flow.{plain-goes}
 use Rattle.feeding.specs.declared.Fed.{Fed}
-use Rattle.feeding.specs.declared.Shares.{Shares}
-use Rattle.feeding.specs.Feeding.{fromLine, got, pushed, fedOne}
+use Rattle.feeding.specs.Feeding.{fromLine, got, sharesOf, fed}
 use Rattle.feeding.specs.Plain.{plain, allPlain, isFree, arePlain}
 
 -- ---- what the test says
@@ -44,7 +43,7 @@ and-true : (a : Bool) → a && true ≡ true && a
 and-true true = refl
 and-true false = refl
 
-and-assoc : (a b c : Bool) → a && (b && c) ≡ (a && b) && c
+pub and-assoc : (a b c : Bool) → a && (b && c) ≡ (a && b) && c
 and-assoc true b c = refl
 and-assoc false b c = refl
 
@@ -132,13 +131,7 @@ module _ (l : Links) (vs : List ℕ) (n : ℕ) (e : arePlain l vs ≡ true) wher
   pub as-they-are : (m : Module) → got m l (fromLine (take n vs)) ≡ cond (reaches (l .table) Modem m) (take n vs) []
   as-they-are m = got-all m l (take n vs) (tested-plain l vs n e)
 
--- ---- one value
-
-module _ (l : Links) (v : ℕ) (e : arePlain l (v ∷ []) ≡ true) where
-  goes : PassedOn l (value modem v) Modem (v ∷ []) l
-  goes = one (tested-plain l (v ∷ []) 1 e)
-
-  -- what each module gets of it is behind what it has
-  pub pushes : (w : Shares) → record { links = l; shares = pushed (l .table .modem) w v } ≡ fedOne l w v
-  pushes w =
-      simp (goes .state, goes .reached Screen, goes .reached Keyboard, goes .reached Modem, goes .reached Socket)
+  pub fed-all : fed l (take n vs)
+      ≡ record { links = l; shares = sharesOf (λ m. cond (reaches (l .table) Modem m) (take n vs) []) }
+  unfolding fed
+  fed-all = simp (links-stay, as-they-are Screen, as-they-are Keyboard, as-they-are Modem, as-they-are Socket)

@@ -1,17 +1,14 @@
 -- Values handed to the links one after the other (01, "Links and commands"). Assumes nothing.
-use mathlib.Core.Bool.{cond}
 use mathlib.Core.List.{List, [], _∷_, _++_, map}
 use Prim.Native.Nat.{ℕ, _+_, _-_, _≤_}
 use lib.ListN.{length, take, drop, replicate}
 use Rattle.wiring.specs.declared.Module.{Module}
-use Rattle.wiring.specs.declared.Row.{Row}
 use Rattle.wiring.specs.declared.Module.the-variants.{Screen, Keyboard, Modem, Socket}
 use Rattle.sending.specs.declared.Bytes.{Bytes}
 use Rattle.sending.specs.declared.Sent.{Sent}
 use Rattle.sending.specs.Sending.{bytesOf}
 use Rattle.links.specs.declared.Links.{Links}
 use Rattle.ears.specs.declared.Ear.the-variants.{Modem as modem}
-use Rattle.links.specs.Calls.{fromModem}
 use Rattle.links.specs.Runs.{Call, value, obey, given, run}
 use Rattle.feeding.specs.declared.Outlet.{Outlet}
 use Rattle.feeding.specs.declared.Shares.{Shares}
@@ -65,15 +62,12 @@ pub record Enough (w : Shares) : Type 0 where
 
 -- ---- one more call's bytes behind those there are
 
-abbrev pub extended : Outlet → List ℕ → Outlet
-extended o vs =
-    record {
-      codes = take (o .count) (o .codes) ++ vs ++ drop (o .count + length vs) (o .codes);
-      count = o .count + length vs;
-    }
-
 abbrev pub appended : Outlet → Bytes → Outlet
-appended o b = extended o (bytesOf b)
+appended o b =
+    record {
+      codes = take (o .count) (o .codes) ++ bytesOf b ++ drop (o .count + length (bytesOf b)) (o .codes);
+      count = o .count + length (bytesOf b);
+    }
 
 abbrev pub gathered : Shares → Sent → Shares
 gathered w s =
@@ -83,17 +77,3 @@ gathered w s =
       modem = appended (w .modem) (s .modem);
       socket = appended (w .socket) (s .socket);
     }
-
--- a value behind those that each module has which a row marks
-abbrev pub pushed : Row → Shares → ℕ → Shares
-pushed r w v =
-    record {
-      screen = extended (w .screen) (cond (r .screen) (v ∷ []) []);
-      keyboard = extended (w .keyboard) (cond (r .keyboard) (v ∷ []) []);
-      modem = extended (w .modem) (cond (r .modem) (v ∷ []) []);
-      socket = extended (w .socket) (cond (r .socket) (v ∷ []) []);
-    }
-
--- the links behind one value of the modem, and its bytes behind those there are
-abbrev pub fedOne : Links → Shares → ℕ → Fed
-fedOne l w v = let o = fromModem l v in record { links = o .next; shares = gathered w (o .sent) }

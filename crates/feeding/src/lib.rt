@@ -3,25 +3,21 @@
 //
 // One line byte lets the receiver pass on up to fifteen values, and each sends at most five bytes to any module: so
 // seventy-five places always suffice for what a module gets. specs/Feeding says what that is; proofs/Suffices shows
-// that the places suffice. Most values are plain characters, which go along the links of the modem as they are
-// (plain.rt): the links are not asked for these (proofs/Passed).
+// that the places suffice. Most values are plain characters, which go along the links of the modem as they are: where all
+// are (plain.rt), the links are not asked for each (proofs/Passed).
 ghost use mathlib.Core.Path.{_≡_};
-ghost use mathlib.Core.Bool.{cond};
-ghost use mathlib.Core.List.{[], _∷_};
 ghost use Prim.Native.Nat.{_≤_, _<_};
 ghost use lib.ListN.{take};
 ghost use Rattle.sending.specs.Sending.{gets};
-ghost use Rattle.feeding.specs.Feeding.{extended, appended, sharesOf, gathered, pushed, nobody};
-ghost use Rattle.feeding.specs.Feeding.{fedOne, fed, Enough};
+ghost use Rattle.feeding.specs.Feeding.{appended, sharesOf, gathered, nobody, fed, Enough};
 
 mod plain;
 
 use links::Links;
 pub use plain::are_plain;
-use plain::is_plain;
+use plain::pass_all;
 use sending::Bytes;
 use sending::Sent;
-use wiring::Row;
 
 // Up to seventy-five bytes: the first `count`. The places past them are 0.
 pub struct Outlet {
@@ -104,59 +100,6 @@ fn nothing() -> Shares
     }
 }
 
-// A value behind what an outlet has, where it is marked.
-fn push(outlet: Outlet, marked: bool, value: u8) -> Outlet
-    requires { ⌜ outlet .count ≤ 70 ⌝ }
-    ensures { λ r. ⌜ r ≡ extended «outlet» (cond marked (value ∷ []) []) ⌝ }
-{
-    if marked {
-        let at = outlet.count;
-        let mut codes = outlet.codes;
-        codes[at] = value;
-        return Outlet {
-            codes,
-            count: at + 1,
-        };
-    }
-    outlet
-}
-
-// A plain value behind what each module has that the modem reaches.
-fn push_to_all(row: Row, shares: Shares, value: u8) -> Shares
-    requires { ⌜ (shares .screen .count ≤ 70) × (shares .keyboard .count ≤ 70) ⌝ }
-    requires { ⌜ (shares .modem .count ≤ 70) × (shares .socket .count ≤ 70) ⌝ }
-    ensures { λ r. ⌜ r ≡ pushed row shares value ⌝ }
-{
-    let screen = push(shares.screen, row.screen, value);
-    let keyboard = push(shares.keyboard, row.keyboard, value);
-    let modem = push(shares.modem, row.modem, value);
-    let socket = push(shares.socket, row.socket, value);
-    Shares {
-        screen,
-        keyboard,
-        modem,
-        socket,
-    }
-}
-
-// One value of the modem. A plain one need not go through the links.
-fn feed_one(links: Links, shares: Shares, value: u8) -> Fed
-    requires { ⌜ (shares .screen .count ≤ 70) × (shares .keyboard .count ≤ 70) ⌝ }
-    requires { ⌜ (shares .modem .count ≤ 70) × (shares .socket .count ≤ 70) ⌝ }
-    ensures { λ r. ⌜ r ≡ fedOne links shares value ⌝ }
-{
-    if is_plain(links, value) {
-        let row = links.table.modem;
-        let shares = push_to_all(row, shares, value);
-        return Fed { links, shares };
-    }
-    let outcome = links.from_modem(value);
-    let sent = outcome.sent;
-    let shares = gather(shares, sent);
-    let links = outcome.next;
-    Fed { links, shares }
-}
-
 // What one call of the links sent; of a count above five there are five bytes.
 pub fn share_out(sent: Sent) -> Shares
     ensures { λ r. ⌜ (r ≡ sharesOf (gets sent)) × Enough r ⌝ }
@@ -170,14 +113,18 @@ pub fn share_out(sent: Sent) -> Shares
 pub fn feed(start: Links, values: [u8; 15], passed: usize) -> Fed
     ensures { λ r. ⌜ (r ≡ fed start (take passed values)) × Enough (r .shares) ⌝ }
 {
+    let count = least(passed, 15);
+    if are_plain(start, values) {
+        return pass_all(start, values, count);
+    }
     let mut links = start;
     let mut shares = nothing();
-    let count = least(passed, 15);
     let mut i: usize = 0;
     while i < count {
-        let fed = feed_one(links, shares, values[i]);
-        links = fed.links;
-        shares = fed.shares;
+        let outcome = links.from_modem(values[i]);
+        let sent = outcome.sent;
+        shares = gather(shares, sent);
+        links = outcome.next;
         i += 1;
     }
     Fed { links, shares }

@@ -1,7 +1,14 @@
 // Values that go along the links of the modem as they are.
 ghost use mathlib.Core.Path.{_≡_};
-ghost use mathlib.Core.List.{[], _∷_};
+ghost use mathlib.Core.Bool.{true, cond};
+ghost use mathlib.Core.List.{[]};
+ghost use Prim.Native.Nat.{_≤_};
+ghost use lib.ListN.{take};
+ghost use Rattle.feeding.specs.Feeding.{outlet, fed};
 ghost use Rattle.feeding.specs.Plain.{plain, allPlain, isFree, arePlain};
+use crate::Fed;
+use crate::Outlet;
+use crate::Shares;
 use hearing::Unfinished;
 use links::Links;
 
@@ -57,15 +64,39 @@ pub fn are_plain(links: Links, values: [u8; 15]) -> bool
     false
 }
 
-// Whether this value of the modem goes to all that it reaches as it is, and leaves the links as they were.
-pub(crate) fn is_plain(links: Links, value: u8) -> bool
-    ensures { λ r. ⌜ r ≡ arePlain links (value ∷ []) ⌝ }
+// The first values, where they are marked.
+fn outlet_of(marked: bool, values: [u8; 15], count: usize) -> Outlet
+    requires { ⌜ count ≤ 15 ⌝ }
+    ensures { λ r. ⌜ r ≡ outlet (cond marked (take count values) []) ⌝ }
 {
-    let unfinished = links.modem;
-    if is_plain_value(value) {
-        if is_free(unfinished) {
-            return links.in_range();
+    let mut codes = [0u8; 75];
+    if marked {
+        let mut i: usize = 0;
+        while i < count {
+            codes[i] = values[i];
+            i += 1;
         }
+        return Outlet { codes, count };
     }
-    false
+    Outlet { codes, count: 0 }
+}
+
+// Plain values, along the links of the modem.
+pub(crate) fn pass_all(links: Links, values: [u8; 15], count: usize) -> Fed
+    requires { ⌜ count ≤ 15 ⌝ }
+    requires { ⌜ arePlain links values ≡ true ⌝ }
+    ensures { λ r. ⌜ r ≡ fed links (take count values) ⌝ }
+{
+    let row = links.table.modem;
+    let screen = outlet_of(row.screen, values, count);
+    let keyboard = outlet_of(row.keyboard, values, count);
+    let modem = outlet_of(row.modem, values, count);
+    let socket = outlet_of(row.socket, values, count);
+    let shares = Shares {
+        screen,
+        keyboard,
+        modem,
+        socket,
+    };
+    Fed { links, shares }
 }

@@ -1,22 +1,29 @@
 -- What each module gets of some values, whether they are plain or go through the links one by one. Assumes nothing.
-use mathlib.Core.Path.{_≡_, sym, ap, _∙_, subst}
+use mathlib.Core.Path.{_≡_, sym, ap, ap₂, _∙_, subst}
 use mathlib.Core.Bool.{true, cond}
-use mathlib.Core.List.{List, []}
-use Prim.Native.Nat.{ℕ, _+_, _≤_}
-use lib.ListN.{length, take}
+use mathlib.Core.List.{List, [], _∷_, _++_, map-append}
+use Prim.Native.Nat.{ℕ, _+_, _-_, _≤_, _<_}
+use native.Mathlib.Numerals.{add-one, unary-clauses}
+use native.Mathlib.Omega.{arith}
+use lib.ListN.{length, take, drop, getD, length-append}
+use lib.Seq.{take-add, take-suc}
 use Rattle.wiring.specs.declared.Module.{Module}
 use Rattle.wiring.specs.declared.Module.the-variants.{Screen, Keyboard, Modem, Socket}
 use Rattle.wiring.specs.Tables.{reaches}
+use Rattle.ears.specs.declared.Ear.the-variants.{Modem as modem}
 use Rattle.links.specs.declared.Links.{Links}
+use Rattle.links.specs.Runs.{value, run}
 use Rattle.feeding.specs.declared.Fed.{Fed}
 use Rattle.feeding.specs.declared.Outlet.{Outlet}
 use Rattle.feeding.specs.Feeding.{fromLine, got, contents, outlet, sharesOf, fed}
 use Rattle.feeding.specs.Plain.{arePlain}
 use Rattle.feeding.proofs.Outlets.{held}
 use Rattle.feeding.proofs.Passed.{links-stay, as-they-are}
+use Rattle.feeding.proofs.Suffices.{run-append, got-append}
 use Rattle.front.specs.declared.Room.{Room}
 use Rattle.pieces.specs.declared.passing.Onward.{Onward}
 use Rattle.pieces.specs.Outputs.{written, sentTo, onward}
+use Rattle.pieces.proofs.Written.{length-written, twice}
 
 abbrev pub behindAll : Links → ℕ → ℕ → ℕ → ℕ → ℕ → Onward
 behindAll l g k m p q =
@@ -87,3 +94,101 @@ module _ (l : Links) (vs : List ℕ) (n : ℕ) (f : Fed) (e : f ≡ fed l (take 
   unfolding onward fed
   share-onward g u ea eb ec ed =
       simp (ea, eb, ec, ed, counted Screen, counted Keyboard, counted Modem, counted Socket, ap (λ (w : Fed). w .links) e)
+
+-- ---- one after the other
+
+-- of more values a module gets no less
+pub grows : (m : Module) (l : Links) (vs : List ℕ) (i n : ℕ) → i ≤ n → length (sentTo m l vs i) ≤ length (sentTo m l vs n)
+grows m l vs i n h =
+    let rest = take (n - i) (drop i vs) in
+    let k : n ≡ i + (n - i) = omega (arith, h) in
+    let cut : take n vs ≡ take i vs ++ rest = ap (λ (j : ℕ). take j vs) k ∙ take-add i (n - i) vs in
+    let all : sentTo m l vs n ≡ sentTo m l vs i ++ got m (run l (fromLine (take i vs))) (fromLine rest) =
+    ap (λ (us : List ℕ). got m l (fromLine us)) cut ∙ ap (got m l) (map-append (value modem) (take i vs) rest)
+    ∙ got-append m l (fromLine (take i vs)) (fromLine rest) in
+    let sum = length-append (sentTo m l vs i) (got m (run l (fromLine (take i vs))) (fromLine rest)) in
+    omega (arith, ap length all, sum)
+
+module _ (l : Links) (vs : List ℕ) (i : ℕ) (less : i < length vs) where
+  abbrev v : ℕ
+  v = getD vs i 0
+
+  abbrev here : Links
+  here = run l (fromLine (take i vs))
+
+  calls : fromLine (take (i + 1) vs) ≡ fromLine (take i vs) ++ (value modem v ∷ [])
+  calls =
+      ap (λ (n : ℕ). fromLine (take n vs)) (add-one i) ∙ ap fromLine (take-suc vs i 0 less)
+      ∙ map-append (value modem) (take i vs) (v ∷ [])
+
+  one-sent : (m : Module) → sentTo m l vs (i + 1) ≡ sentTo m l vs i ++ sentTo m here (v ∷ []) 1
+  one-sent m = ap (got m l) calls ∙ got-append m l (fromLine (take i vs)) (value modem v ∷ [])
+
+  counts : (m : Module) (n : ℕ)
+      → n + length (sentTo m l vs i) + length (sentTo m here (v ∷ []) 1) ≡ n + length (sentTo m l vs (i + 1))
+  counts m n =
+      omega (arith, ap length (one-sent m), length-append (sentTo m l vs i) (sentTo m here (v ∷ []) 1))
+
+  -- the links and what is written behind one more
+  pub one-onward : (g : ℕ) (u : Room) {o p : Onward} → o ≡ onward l vs i g u
+      → p ≡ onward (o .links) (v ∷ []) 1 (o .gathered) (o .used) → p ≡ onward l vs (i + 1) g u
+  unfolding onward
+  one-onward g u {o} {p} e f =
+      f ∙ ap (λ (s : Onward). onward (s .links) (v ∷ []) 1 (s .gathered) (s .used)) e
+      ∙ simp (
+        ap (run l) calls ∙ run-append l (fromLine (take i vs)) (value modem v ∷ []),
+        counts Screen g,
+        counts Keyboard (u .keyboard),
+        counts Modem (u .modem),
+        counts Socket (u .socket),
+      )
+
+  -- there is room for it, and it stands behind what is there
+  module _ (m : Module) (before out : List ℕ) (at n : ℕ) {q : Links} {k : ℕ}
+      (so-far : out ≡ written before at (sentTo m l vs i)) (links : q ≡ here)
+      (used : k ≡ at + length (sentTo m l vs i)) (room : at + length (sentTo m l vs n) ≤ length before)
+      (more : i < n) where
+    fits : at + length (sentTo m l vs i) ≤ length before
+    fits = omega (arith, grows m l vs i n (omega (arith, more)), room)
+
+    pub one-fits : k + length (sentTo m q (v ∷ []) 1) ≤ length out
+    one-fits =
+        let sent = ap (λ (w : Links). length (sentTo m w (v ∷ []) 1)) links in
+        let long = ap length so-far ∙ length-written before (sentTo m l vs i) at fits in
+        omega (arith, used, sent, long, counts m at, grows m l vs (i + 1) n (omega (arith, more)), room)
+
+    pub one-written : {left : List ℕ} → left ≡ written out k (sentTo m q (v ∷ []) 1)
+        → left ≡ written before at (sentTo m l vs (i + 1))
+    one-written e =
+        e ∙ ap (λ (w : Links). written out k (sentTo m w (v ∷ []) 1)) links
+        ∙ ap₂ (λ (o : List ℕ) (j : ℕ). written o j (sentTo m here (v ∷ []) 1)) so-far used
+        ∙ twice before (sentTo m l vs i) (sentTo m here (v ∷ []) 1) at (omega (arith, fits))
+        ∙ ap (written before at) (sym (one-sent m))
+
+-- ---- what is behind the first i of them
+
+pub none-yet : (l : Links) (vs : List ℕ) (g : ℕ) (u : Room)
+    → record { links = l; gathered = g; used = u } ≡ onward l vs 0 g u
+unfolding onward got
+none-yet l vs g u = simp unary-clauses
+
+module _ (l : Links) (vs : List ℕ) (i g : ℕ) (u : Room) {o : Onward} (e : o ≡ onward l vs i g u) where
+  pub links-behind : o .links ≡ run l (fromLine (take i vs))
+  unfolding onward
+  links-behind = ap (λ (w : Onward). w .links) e
+
+  pub gathered-behind : o .gathered ≡ g + length (sentTo Screen l vs i)
+  unfolding onward
+  gathered-behind = ap (λ (w : Onward). w .gathered) e
+
+  pub keys-behind : o .used .keyboard ≡ u .keyboard + length (sentTo Keyboard l vs i)
+  unfolding onward
+  keys-behind = ap (λ (w : Onward). w .used .keyboard) e
+
+  pub line-behind : o .used .modem ≡ u .modem + length (sentTo Modem l vs i)
+  unfolding onward
+  line-behind = ap (λ (w : Onward). w .used .modem) e
+
+  pub port-behind : o .used .socket ≡ u .socket + length (sentTo Socket l vs i)
+  unfolding onward
+  port-behind = ap (λ (w : Onward). w .used .socket) e

@@ -5,20 +5,27 @@ use mathlib.Core.List.{List, _++_}
 use Prim.Native.Nat.{ℕ}
 use lib.ListN.{length, take, drop}
 use lib.Seq.{take-append-seam, drop-append-seam}
+use native.Mathlib.Omega.{arith}
+use Rattle.receiver.proofs.Ranges.{count-in}
 use Rattle.laws.proofs.Computed.{and-left, and-right, holds, is-true, fails}
 use Rattle.wiring.specs.declared.Module.{Module}
 use Rattle.wiring.specs.declared.Module.the-variants.{Screen, Keyboard, Modem, Socket}
 use Rattle.front.specs.declared.Room.{Room}
 use Rattle.front.specs.Fitting.{within}
+use Rattle.front.specs.Ample.{Ample}
+use Rattle.front.proofs.Amply.{amply}
 use Rattle.front.proofs.Rooms.{tested as fits-tested, passes}
 use Rattle.board.specs.declared.Board.{Board}
 use Rattle.board.specs.Boards.{inRange}
-use Rattle.board.specs.Runs.{run, Outside}
+use Rattle.board.specs.Runs.{run, Outside, InBoard}
+use Rattle.board.proofs.Ranges.{tested}
 use Rattle.pieces.specs.declared.Answer.the-variants.{Taken, NoRoom, Broken}
 use Rattle.pieces.specs.declared.Passage.{Passage}
 use Rattle.pieces.specs.Pieces.{singly, handed, yields, passage, refused, linesOf, isTaken, leftIn}
 use Rattle.pieces.specs.Claims.{wrote, TakenWhole, NothingTaken, RoomFor}
+use Rattle.pieces.specs.Playing.{frontOf}
 use Rattle.pieces.proofs.Numbered.{kept}
+use Rattle.pieces.proofs.Single.{is-taken}
 
 -- ---- a piece is taken exactly where the board is in range and each output has room
 
@@ -43,6 +50,12 @@ takes b xs r i f =
     ap₂ (λ (s t : Bool). s && t) i
     (passes (yields b xs) r
     (record { keyboard = f .keyboard; modem = f .modem; socket = f .socket; requests = f .requests }))
+
+-- whatever the bytes, where each output is long enough for any
+pub surely-taken : (b : Board) → InBoard b → (xs : List ℕ) (r : Room) → Ample (length xs) r → isTaken b xs r ≡ true
+surely-taken b i xs r a =
+    let few = count-in (b .receiver) (i .receiver .range) in
+    is-taken b i xs r true (tested b i) (amply (frontOf b) xs r (omega (arith, few)) a)
 
 -- ---- what it comes to
 

@@ -1,11 +1,11 @@
 -- Bytes written behind those that are there. Assumes nothing.
 use mathlib.Core.Path.{_≡_, refl, sym, ap, ap₂, _∙_}
-use mathlib.Core.List.{List, [], _∷_, _++_}
+use mathlib.Core.List.{List, [], _∷_, _++_, append-assoc}
 use Prim.Native.Nat.{ℕ, zero, suc, _+_, _≤_, _<_}
 use native.Mathlib.Nat.{not-suc-le-zero, le-of-suc-le-suc}
 use native.Mathlib.Omega.{arith}
 use lib.ListN.{length, take, drop, getD, replicate, length-append, length-drop}
-use lib.Seq.{paste, paste-zero, take-append-seam, drop-append-add, drop-drop, length-take-le}
+use lib.Seq.{paste, paste-zero, take-at, take-append-seam, drop-append-add, drop-drop, length-take-le}
 use Rattle.pieces.specs.Outputs.{written}
 
 -- bytes at the beginning of an output
@@ -40,6 +40,22 @@ length-written out ws at h =
     length-append (take at out ++ ws) (drop (at + length ws) out)
     ∙ ap (λ (n : ℕ). n + length (drop (at + length ws) out)) (length-append (take at out) ws)
     ∙ omega (arith, first, d, h)
+
+-- some bytes, and then others behind them
+pub twice : (out a b : List ℕ) (at : ℕ) → at ≤ length out
+    → written (written out at a) (at + length a) b ≡ written out at (a ++ b)
+twice out a b at h =
+    let first = take at out in
+    let n : ℕ = at + length a in
+    let long : length (first ++ a) ≡ n =
+    length-append first a ∙ ap (λ (k : ℕ). k + length a) (length-take-le at out h) in
+    let rest = drop n out in
+    let all : n + length b ≡ at + length (a ++ b) = omega (arith, length-append a b) in
+    ap₂ (λ (x y : List ℕ). x ++ b ++ y) (take-at (first ++ a) rest n long)
+    (ap (λ (k : ℕ). drop (k + length b) (first ++ a ++ rest)) (sym long) ∙ drop-append-add (first ++ a) rest (length b)
+    ∙ drop-drop (length b) n out)
+    ∙ ap₂ (λ (x : List ℕ) (k : ℕ). x ++ drop k out) (append-assoc first a b)
+    all
 
 -- ---- the notes on the bytes of a turn
 
