@@ -48,7 +48,7 @@ fn fill(r: Receiver, bytes: &[u8], count: usize) -> Receiver
 }
 
 // The first bytes, as many as are only held. Where a stretch begins and its first sixteen bytes are there, their number
-// is no variable, and the compiler makes one store of them.
+// and their place are no variables, so that the compiler need not loop over them.
 pub(crate) fn hold(r: Receiver, bytes: &[u8]) -> Held
     ensures { λ h. ⌜ h ≡ heldOf r (now (bytes .entry)) ⌝ }
 {
