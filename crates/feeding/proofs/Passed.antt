@@ -11,13 +11,14 @@ use borrow.Author.Tests.{ltb-true}
 use Rattle.laws.proofs.Computed.{fails, holds, is-true, and-left, and-right}
 use Rattle.wiring.specs.declared.Module.{Module}
 use Rattle.wiring.specs.declared.Module.the-variants.{Screen, Keyboard, Modem, Socket}
-use Rattle.wiring.specs.Tables.{reaches}
+use Rattle.wiring.specs.Tables.{reaches, selfLinked}
+use Rattle.hearing.specs.Hearing.{inRange as heldInRange}
 use Rattle.hearing.specs.declared.Unfinished.{Unfinished}
 use Rattle.hearing.specs.declared.Unfinished.the-variants.{Free, Escape, Pro1, Pro2, Pro2With}
 use Rattle.hearing.specs.declared.Unfinished.the-variants.{Pro3, Pro3With, Pro3Both}
 use Rattle.ears.specs.declared.Ear.the-variants.{Modem as modem}
 use Rattle.links.specs.declared.Links.{Links}
-use Rattle.links.specs.States.{inRange}
+use Rattle.links.specs.States.{inRange, connectedLinks}
 use Rattle.links.specs.Runs.{value, run, PassedOn}
 use Rattle.links.proofs.Ranges.{tested}
 use Rattle.links.proofs.Flow.{plain-goes}
@@ -135,3 +136,11 @@ module _ (l : Links) (vs : List ℕ) (n : ℕ) (e : arePlain l vs ≡ true) wher
       ≡ record { links = l; shares = sharesOf (λ m. cond (reaches (l .table) Modem m) (take n vs) []) }
   unfolding fed
   fed-all = simp (links-stay, as-they-are Screen, as-they-are Keyboard, as-they-are Modem, as-they-are Socket)
+
+-- ---- written out: the first and the last value, those around ESC, ESC and 128; ESC unfinished
+
+pub as-written : (arePlain connectedLinks (0 ∷ 26 ∷ 28 ∷ 127 ∷ []) ≡ true) × (arePlain connectedLinks (27 ∷ []) ≡ false)
+    × (arePlain connectedLinks (128 ∷ []) ≡ false)
+    × (arePlain (record { table = connectedLinks .table; modem = Escape; socket = Free }) (65 ∷ []) ≡ false)
+unfolding arePlain inRange selfLinked heldInRange
+as-written = (refl, refl, refl, refl)

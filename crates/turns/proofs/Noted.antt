@@ -1,14 +1,17 @@
 -- The notes on a record, computed. Assumes nothing.
 use mathlib.Core.Path.{_≡_, refl}
 use mathlib.Core.List.{[], _∷_}
+use Prim.Native.Nat.{ℕ, _+_, _<_}
+use native.Mathlib.Omega.{arith}
 use Rattle.division.specs.Division.{lowBits, bits, reduce, divide}
 use Rattle.parity.specs.Parity.{ones, even, allEven, withParity}
 use Rattle.validity.specs.Block.{codeBits, remainder, valid}
 use Rattle.validity.specs.Changed.{flip}
+use Rattle.reader.specs.declared.Verdict.the-variants.{Mended}
 use Rattle.reader.specs.Judging.{tryFrom, verdict, left}
 use Rattle.phases.specs.declared.Phase.the-variants.{Off, Collecting}
 use Rattle.receiver.specs.States.{emptied}
-use Rattle.turns.specs.Notes.{notesOf}
+use Rattle.turns.specs.Notes.{verdictNote, notesOf}
 use Rattle.turns.specs.Card.{recorded, notedDown}
 
 pub as-written : notesOf (emptied 0 Collecting) recorded ≡ notedDown
@@ -17,3 +20,7 @@ as-written = refl
 
 pub while-off : notesOf (emptied 0 Off) (65 ∷ 200 ∷ []) ≡ 0 ∷ 0 ∷ []
 while-off = refl
+
+-- the note on a mended block tells its bit
+pub bit-told : (k : ℕ) → k < 128 → verdictNote (Mended k) ≡ 128 + k
+bit-told k h = omega (arith, h)
