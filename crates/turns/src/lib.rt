@@ -3,7 +3,7 @@
 // Stepping byte by byte builds and copies a whole answer for each, though all but the seventeenth of a block bring
 // nothing. A turn comes to what its bytes come to one by one, and says how many they are; and it has a note on the last,
 // so that a night book needs no receiver of its own. specs/Turns says what a turn is, specs/Notes what the notes are,
-// and proofs/Singly shows that a turn comes to what single steps do.
+// and proofs/Steps shows that a turn comes to what single steps do.
 ghost use mathlib.Core.Path.{_≡_};
 ghost use Rattle.turns.specs.Turns.{still, turnOf};
 
