@@ -1,19 +1,11 @@
 //! A block of seventeen bytes: made, and judged in place.
 
-pub const BLOCK: usize = 17;
+use crate::verdicts::{Verdict, BLOCK};
+
 pub const VALUES: usize = 15;
 
 /// How many bits of a block may be mended; as a place it is none of them.
 const MENDABLE: u8 = 127;
-
-#[derive(Clone, Copy)]
-pub enum Verdict {
-    Clean,
-    /// The bit that was changed, in block order.
-    Mended(u8),
-    Repeat,
-    WrongLength,
-}
 
 /// x^7 + x^3 + 1.
 const GENERATOR: u8 = 0b1000_1001;

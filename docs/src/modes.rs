@@ -5,36 +5,18 @@ use std::fs::File;
 use std::io::{Read, Result, Write};
 
 use crate::board::Board;
-use crate::judge::{judge as judge_block, Verdict, BLOCK, VALUES};
+use crate::hex::hex;
+use crate::judge::{judge as judge_block, VALUES};
 use crate::links::{Links, Outputs, KEYBOARD, MODEM, SCREEN, SOCKET};
+use crate::portions::{read_portions, PORTION};
 use crate::receiver::{Heard, Receiver};
 use crate::screen::Screen;
-use crate::texts::{hex, verdict, write_bytes, write_links, write_receiver, write_screen};
-
-/// As many whole blocks as groups of fifteen values.
-const PORTION: usize = 4080;
+use crate::texts::{write_bytes, write_links, write_receiver, write_screen};
+use crate::verdicts::{judge_file, Counts, Verdict};
 
 /// As many bytes as an output may need for a portion: with sixteen bytes held before it, and five
 /// for each value.
 const ROOM: usize = 5 * (PORTION + 16);
-
-/// Hands each portion of a file on, all of them full but the last.
-fn read_portions(file: &mut File, mut take: impl FnMut(&mut [u8]) -> Result<()>) -> Result<()> {
-    let mut portion = [0; PORTION];
-    loop {
-        let mut filled = 0;
-        while filled < PORTION {
-            match file.read(&mut portion[filled..])? {
-                0 => break,
-                more => filled += more,
-            }
-        }
-        if filled == 0 {
-            return Ok(());
-        }
-        take(&mut portion[..filled])?;
-    }
-}
 
 fn remove_parity(bytes: &mut [u8]) {
     for byte in bytes {
@@ -42,60 +24,8 @@ fn remove_parity(bytes: &mut [u8]) {
     }
 }
 
-#[derive(Default)]
-struct Counts {
-    clean: u64,
-    mended: u64,
-    repeat: u64,
-    wrong_length: u64,
-}
-
-impl Counts {
-    fn count(&mut self, verdict: Verdict) {
-        match verdict {
-            Verdict::Clean => self.clean += 1,
-            Verdict::Mended(_) => self.mended += 1,
-            Verdict::Repeat => self.repeat += 1,
-            Verdict::WrongLength => self.wrong_length += 1,
-        }
-    }
-
-    fn write(&self, out: &mut impl Write, name: &str) -> Result<()> {
-        let Counts {
-            clean,
-            mended,
-            repeat,
-            wrong_length,
-        } = self;
-        writeln!(
-            out,
-            "{name}: clean {clean}, mended {mended}, repeat {repeat}, wrong length {wrong_length}"
-        )
-    }
-}
-
-pub fn read(file: &mut File, out: &mut impl Write) -> Result<()> {
-    let mut bytes = 0;
-    read_portions(file, |portion| {
-        bytes += portion.len();
-        Ok(())
-    })?;
-    writeln!(out, "read: {bytes} bytes")
-}
-
 pub fn judge(file: &mut File, writing: bool, out: &mut impl Write) -> Result<()> {
-    let mut counts = Counts::default();
-    read_portions(file, |portion| {
-        for block in portion.chunks_mut(BLOCK) {
-            let judged = judge_block(block);
-            counts.count(judged);
-            if writing {
-                writeln!(out, "{} {}", hex(block), verdict(judged))?;
-            }
-        }
-        Ok(())
-    })?;
-    counts.write(out, "judge")
+    judge_file(file, writing, out, judge_block)
 }
 
 pub fn receiver(file: &mut File, writing: bool, out: &mut impl Write) -> Result<()> {
@@ -110,14 +40,14 @@ pub fn receiver(file: &mut File, writing: bool, out: &mut impl Write) -> Result<
                     counts.count(judged);
                     passed += values.len();
                     if writing {
-                        writeln!(out, "{} {}", verdict(judged), hex(&values))?;
+                        writeln!(out, "{} {}", judged.text(), hex(&values))?;
                     }
                 }
                 Heard::Request(request) => {
                     counts.count(Verdict::Repeat);
                     asked += request.len();
                     if writing {
-                        writeln!(out, "{} {}", verdict(Verdict::Repeat), hex(&request))?;
+                        writeln!(out, "{} {}", Verdict::Repeat.text(), hex(&request))?;
                     }
                 }
             }

@@ -4,7 +4,8 @@
 //! the same; it is built by rustc --edition 2021 -O docs/src/peer.rs.
 //!
 //! peer MODE FILE...           plays each FILE by the MODE before it
-//! peer make KIND SEED BLOCKS  writes a record of that kind, plain or night, with so many blocks
+//! peer make KIND SEED BLOCKS  writes a record of that kind, plain, upset or night, with so many
+//!                             blocks
 //!
 //! The modes are read, judge, receiver, links, screen and path; with `write-` before the last five,
 //! everything that is handed out is written too. The mode memory writes the line of a process's
@@ -18,35 +19,42 @@
 //! records.rs   the records
 //! modes.rs     the modes
 //! texts.rs     states as text
+//!
+//! Shared with bit_by_bit.rs, the other program of this folder:
+//!
+//! portions.rs  files read in portions
+//! verdicts.rs  verdicts, and the mode judge
+//! hex.rs       bytes in base sixteen
 
 mod board;
+mod hex;
 mod judge;
 mod links;
 mod modes;
+mod portions;
 mod receiver;
 mod records;
 mod screen;
 mod texts;
+mod verdicts;
 
 use std::env;
-use std::fs::File;
 use std::io::{stdout, BufWriter, Error, ErrorKind, Result, Write};
 use std::process::ExitCode;
 
-const USAGE: &str = "usage: peer MODE FILE... | peer make (plain | night) SEED BLOCKS";
+const USAGE: &str = "usage: peer MODE FILE... | peer make (plain | upset | night) SEED BLOCKS";
 
 fn misused() -> Error {
     Error::new(ErrorKind::InvalidInput, USAGE)
 }
 
 fn play(mode: &str, name: &str, out: &mut impl Write) -> Result<()> {
-    let mut file =
-        File::open(name).map_err(|error| Error::new(error.kind(), format!("{name}: {error}")))?;
+    let mut file = portions::open(name)?;
     let (writing, part) = mode
         .strip_prefix("write-")
         .map_or((false, mode), |part| (true, part));
     match (part, writing) {
-        ("read", false) => modes::read(&mut file, out),
+        ("read", false) => portions::read(&mut file, out),
         ("judge", _) => modes::judge(&mut file, writing, out),
         ("receiver", _) => modes::receiver(&mut file, writing, out),
         ("links", _) => modes::links(&mut file, writing, out),
@@ -64,6 +72,7 @@ fn make(kind: &str, seed: &str, blocks: &str, out: &mut impl Write) -> Result<()
     let mut chance = records::Chance::new(seed);
     match kind {
         "plain" => records::write_plain(out, &mut chance, blocks),
+        "upset" => records::write_upset(out, &mut chance, blocks),
         "night" => records::write_night(out, &mut chance, blocks),
         _ => Err(misused()),
     }

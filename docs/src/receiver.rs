@@ -1,7 +1,8 @@
 //! The line receiver: holds bytes until there are seventeen, judges the block, and asks for it
 //! again or hands on its values.
 
-use crate::judge::{judge, with_parity, Verdict, BLOCK, VALUES};
+use crate::judge::{judge, with_parity, VALUES};
+use crate::verdicts::{Verdict, BLOCK};
 
 const NACK: u8 = 0x95;
 const SYN: u8 = 0x96;

@@ -1,9 +1,11 @@
-//! Records made from a seed: blocks of plain characters, and a night of pages on a bad line.
+//! Records made from a seed: blocks of plain characters, the same with some of them upset, and a
+//! night of pages on a bad line.
 
 use std::io::{Result, Write};
 
-use crate::judge::{make, with_parity, BLOCK, VALUES};
+use crate::judge::{make, with_parity, VALUES};
 use crate::links::ESC;
+use crate::verdicts::BLOCK;
 
 /// splitmix64: the same numbers from the same seed, everywhere.
 pub struct Chance(u64);
@@ -35,11 +37,26 @@ impl Chance {
     }
 }
 
-/// Clean blocks of fifteen characters of 2/0 to 7/E.
+/// A clean block of fifteen characters of 2/0 to 7/E.
+fn plain_block(chance: &mut Chance) -> [u8; BLOCK] {
+    make(&std::array::from_fn(|_| chance.code(0x20, 0x7e)))
+}
+
 pub fn write_plain(out: &mut impl Write, chance: &mut Chance, blocks: usize) -> Result<()> {
+    (0..blocks).try_for_each(|_| out.write_all(&plain_block(chance)))
+}
+
+/// Such blocks one behind the other, upset as those of a night are: one in 200 at two bits, and of
+/// the others one in ten at one code bit.
+pub fn write_upset(out: &mut impl Write, chance: &mut Chance, blocks: usize) -> Result<()> {
     for _ in 0..blocks {
-        let values: [u8; VALUES] = std::array::from_fn(|_| chance.code(0x20, 0x7e));
-        out.write_all(&make(&values))?;
+        let block = plain_block(chance);
+        let arrives = if chance.once_in(200) {
+            hit_twice(chance, block)
+        } else {
+            hit_at_times(chance, block)
+        };
+        out.write_all(&arrives)?;
     }
     Ok(())
 }
@@ -67,14 +84,19 @@ fn write_refused(
     sent: &[[u8; BLOCK]],
     number: usize,
 ) -> Result<()> {
-    let first = chance.below(136);
-    let second = (first + 1 + chance.below(135)) % 136;
-    out.write_all(&hit(hit(sent[0], first), second))?;
+    out.write_all(&hit_twice(chance, sent[0]))?;
     let under_way = chance.below(4) as usize;
     for &block in sent[1..].iter().take(under_way) {
         out.write_all(&hit_at_times(chance, block))?;
     }
     out.write_all(&[0x16, 0x16, 0x40 + (number % 16) as u8].map(with_parity))
+}
+
+/// Two different bits of all 136 upset.
+fn hit_twice(chance: &mut Chance, block: [u8; BLOCK]) -> [u8; BLOCK] {
+    let first = chance.below(136);
+    let second = (first + 1 + chance.below(135)) % 136;
+    hit(hit(block, first), second)
 }
 
 /// One block in ten has one of its 127 code bits upset.

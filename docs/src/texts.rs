@@ -2,17 +2,10 @@
 
 use std::io::{Result, Write};
 
-use crate::judge::Verdict;
+use crate::hex::hex;
 use crate::links::{Links, Unfinished, ESC, MODEM, SOCKET};
 use crate::receiver::{Phase, Receiver};
 use crate::screen::{Attributes, Cell, Place, Screen, Sequence, COLUMNS};
-
-pub fn hex(bytes: &[u8]) -> String {
-    if bytes.is_empty() {
-        return "-".to_string();
-    }
-    bytes.iter().map(|byte| format!("{byte:02x}")).collect()
-}
 
 /// Bytes behind a name, in lines of 75 at most; nothing where there are none.
 pub fn write_bytes(out: &mut impl Write, name: &str, bytes: &[u8]) -> Result<()> {
@@ -20,15 +13,6 @@ pub fn write_bytes(out: &mut impl Write, name: &str, bytes: &[u8]) -> Result<()>
         writeln!(out, "{name} {}", hex(line))?;
     }
     Ok(())
-}
-
-pub fn verdict(verdict: Verdict) -> String {
-    match verdict {
-        Verdict::Clean => "clean".to_string(),
-        Verdict::Mended(bit) => format!("mended {bit}"),
-        Verdict::Repeat => "repeat".to_string(),
-        Verdict::WrongLength => "wrong length".to_string(),
-    }
 }
 
 pub fn write_receiver(out: &mut impl Write, receiver: &Receiver) -> Result<()> {

@@ -4,12 +4,10 @@ use mathlib.Core.Path.{_≡_, refl, sym, ap, ap₂, _∙_, subst⁻¹}
 use mathlib.Core.Bool.{Bool, cond}
 use mathlib.Core.List.{List, [], _∷_, _++_}
 use mathlib.Core.Logic.{⊎-elim}
-use Prim.Native.Nat.{ℕ, suc, _+_, _-_, _*_, _^_, _≤_, _<_}
+use Prim.Native.Nat.{ℕ, _+_, _-_, _*_, _^_, _≤_, _<_}
 use native.Mathlib.Nat.{zero-lt-suc}
-use native.Mathlib.Numerals.{add-one}
 use native.Mathlib.Omega.{arith}
-use lib.ListN.{length, getD, drop, replicate, drop-of-length-le}
-use lib.Seq.{drop-cons}
+use lib.ListN.{replicate}
 use lib.Bits.{bitXor, xor-lt, xor-block}
 use borrow.Author.Tests.{lt-ltb, le-ltb}
 use Rattle.laws.proofs.Computed.{apart}
@@ -55,20 +53,6 @@ divide-lt none r h = h
 divide-lt (more {x = x} k d) r h = divide-lt d (reduce (r * 2 + x)) (reduce-lt (r * 2 + x) (omega (arith, h, k)))
 
 -- ---- rows of bytes
-
--- one byte brought down
-pub byte-down : (B : List ℕ) (i r : ℕ) → i < length B
-    → divide (divide r (lowBits 8 (getD B i 0))) (bits (drop (i + 1) B)) ≡ divide r (bits (drop i B))
-unfolding bits
-byte-down B i r h =
-    ap (λ (n : ℕ). divide (divide r (lowBits 8 (getD B i 0))) (bits (drop n B))) (add-one i)
-    ∙ sym (ap (λ (l : List ℕ). divide r (bits l)) (drop-cons B i 0 h)
-    ∙ divide-append r (lowBits 8 (getD B i 0)) (bits (drop (suc i) B)))
-
--- none left
-pub all-down : (B : List ℕ) (i r : ℕ) → length B ≤ i → divide r (bits (drop i B)) ≡ r
-unfolding bits divide
-all-down B i r h = ap (λ (l : List ℕ). divide r (bits l)) (drop-of-length-le B {i = i} h)
 
 -- seven zeros behind the bytes
 pub zeros-behind : (B : List ℕ) → divide (divide 0 (bits B)) (lowBits 7 0) ≡ checkBits B

@@ -1,2 +1,3 @@
 pub mod Division
 pub mod Polynomials
+pub mod Table

@@ -3,7 +3,7 @@
 use mathlib.Core.Path.{_≡_, refl, sym, ap, ap₂, _∙_}
 use mathlib.Core.Bool.{Bool, true, false, cond, _&&_}
 use mathlib.Core.List.{List, [], _∷_, _++_}
-use Prim.Native.Nat.{ℕ, zero, suc, _+_, _-_, _*_, _/_, _%_, _≤_, _<_}
+use Prim.Native.Nat.{ℕ, zero, suc, _+_, _*_, _/_, _%_, _≤_, _<_}
 use native.Mathlib.Nat.{add-mod, mod-lt, zero-lt-suc}
 use native.Mathlib.Numerals.{add-one}
 use native.Mathlib.Omega.{arith}
@@ -143,17 +143,31 @@ parity-back b h e =
     eqb→eq (withParity (b % 128)) b
     (rw e at (at whole 256 all-whole b h))
 
+-- ---- some bytes
+
+-- where all are even, none is odd
+pub none-odd : (A : List ℕ) → T (allEven A) → odds A ≡ 0
+unfolding odds allEven
+none-odd [] t = refl
+none-odd (a ∷ A) t = go (even a) t (none-odd A)
+  where
+    go : (e : Bool) → T (e && allEven A) → (T (allEven A) → odds A ≡ 0) → cond e (odds A) (suc (odds A)) ≡ 0
+    go true u f = f u
+    go false u f = absurd u
+
 -- ---- what one turn of a loop does
 
--- one bit counted
-pub ones-turn : (c i : ℕ) → 0 < i → ones (lowBits i c) ≡ c % 2 + ones (lowBits (i - 1) (c / 2))
-unfolding ones lowBits
-ones-turn c zero h = absurd (omega (arith, h))
-ones-turn c (suc i) h = let e : i ≡ suc i - 1 = omega arith in ap (λ (m : ℕ). c % 2 + ones (lowBits m (c / 2))) e
+-- one byte seen
+pub evens-turn : (B : List ℕ) (i : ℕ) {t : Bool} → i < length B → even (getD B i 0) ≡ t
+    → allEven (drop i B) ≡ t && allEven (drop (i + 1) B)
+unfolding allEven
+evens-turn B i h e =
+    ap allEven (drop-cons B i 0 h) ∙ ap (λ (n : ℕ). allEven (getD B i 0 ∷ drop n B)) (sym (add-one i))
+    ∙ ap (λ (t : Bool). t && allEven (drop (i + 1) B)) e
 
-pub ones-done : (c i : ℕ) → i ≡ 0 → ones (lowBits i c) ≡ 0
-unfolding ones lowBits
-ones-done c i e = ap (λ (m : ℕ). ones (lowBits m c)) e
+pub evens-done : (B : List ℕ) (i : ℕ) → length B ≤ i → allEven (drop i B) ≡ true
+unfolding allEven
+evens-done B i h = ap allEven (drop-of-length-le B {i = i} h)
 
 -- one byte passed, of either parity
 pub odds-turn : (B : List ℕ) (i : ℕ) {t : Bool} → i < length B → even (getD B i 0) ≡ t

@@ -9,13 +9,14 @@ use lib.ListN.{length, getD, take}
 use borrow.Author.Tests.{eqb-true}
 use Rattle.laws.proofs.Computed.{and-left, and-right, is-true, fails, holds}
 use Rattle.parity.specs.Parity.{even, odds}
+use Rattle.parity.proofs.Parities.{none-odd}
 use Rattle.validity.specs.Block.{codeBits, remainder, Valid}
 use Rattle.validity.specs.Changed.{Near, same, changed}
 use Rattle.validity.specs.Units.{unit}
 use Rattle.validity.proofs.Powers.{code-length}
 use Rattle.validity.proofs.Marks.{remainder-inj}
 use Rattle.validity.proofs.Validity.{valid-even, valid-remainder, valid-last, is-valid}
-use Rattle.validity.proofs.Odd.{Mends, mends-only, mends-where, none-odd, all-even}
+use Rattle.validity.proofs.Odd.{Mends, mends-only, mends-where, all-even}
 use Rattle.reader.specs.declared.Verdict.the-variants.{Clean, Mended, Repeat}
 use Rattle.reader.specs.Judging.{mendable}
 use Rattle.reader.specs.Claims.{Right}

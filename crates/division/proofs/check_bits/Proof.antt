@@ -1,29 +1,57 @@
--- `division::check_bits` meets its contract: what is left of the bytes behind r gives the result. Assumes nothing.
-use mathlib.Core.Path.{_≡_, refl, sym, ap, _∙_, subst⁻¹}
+-- `division::check_bits` meets its contract: m is the check bits so far, mirrored. Assumes nothing.
+use mathlib.Core.Path.{_≡_, refl, ap, _∙_}
 use mathlib.Core.List.{List}
-use Prim.Native.Nat.{ℕ, _+_, _-_, _≤_, _<_}
+use Prim.Native.Nat.{ℕ, _-_, _≤_, _<_, zero-le}
 use native.Mathlib.Omega.{arith}
-use lib.ListN.{length, getD, drop}
-use Rattle.division.specs.Division.{lowBits, bits, divide}
-use Rattle.division.proofs.Bytes.{low-digits}
-use Rattle.division.proofs.Steps.{divide-lt, byte-down, all-down, zeros-behind}
+use lib.ListN.{length, getD, take}
+use lib.Seq.{take-all}
+use lib.Bits.{bitXor, xor-lt}
+use Rattle.division.specs.Division.{lowBits, bits, reduce, divide, checkBits}
+use Rattle.division.specs.Polynomials.{polynomial}
+use Rattle.division.specs.Table.{mirrored, entering, Remainders}
+use Rattle.division.proofs.Steps.{check-lt}
+use Rattle.division.proofs.Entering.{rule, next-byte, mirrored-lt, mirrored-twice}
 use Rattle.division.proofs.check_bits.Statement.{statement}
 use Rattle.division.proofs.check_bits.Tie as tie
 
 abbrev Inv-loop : tie.InvT-loop
-Inv-loop bytes r₀ i₀ r i = (i ≤ length bytes) × (r < 128) × (divide r (bits (drop i bytes)) ≡ divide 0 (bits bytes))
+Inv-loop bytes table m₀ i₀ m i =
+    (i ≤ length bytes) × (m ≡ mirrored (checkBits (take i bytes))) × Remainders table
 
 abbrev μ-loop : tie.MeasureT-loop
-μ-loop bytes r₀ i₀ r i = length bytes - i
+μ-loop bytes table m₀ i₀ m i = length bytes - i
 
 loop-holds : tie.Need-loop-holds Inv-loop μ-loop
-loop-holds c = (omega arith, omega arith, refl)
+unfolding checkBits bits divide reduce lowBits mirrored polynomial entering
+loop-holds c = (zero-le, refl, rule _ tt)
 
-shared-slice-read-bring : tie.Need-shared-slice-read-bring Inv-loop μ-loop
-shared-slice-read-bring c = omega arith
+shared-slice-read-m : tie.Need-shared-slice-read-m Inv-loop μ-loop
+shared-slice-read-m c = omega arith
 
-bring-requires : tie.Need-bring-requires Inv-loop μ-loop
-bring-requires c κs = omega arith
+-- the check bits so far and a byte, added, are a place of the table
+within : (B : List ℕ) (i m b : ℕ) → m ≡ mirrored (checkBits (take i B)) → b < 256 → bitXor m b < 256
+within B i m b e h =
+    let k = mirrored-lt (checkBits (take i B)) (check-lt (take i B)) in
+    xor-lt 8 m b (omega (arith, e, k)) h
+
+module _ (c : tie.After-shared-slice-known2 Inv-loop μ-loop) where
+  abbrev B : List ℕ
+  B = c .before .before .before .before .args .bytes .now
+
+  abbrev i : ℕ
+  i = c .before .before .loop .i
+
+  abbrev m : ℕ
+  m = c .before .before .loop .m
+
+  place : bitXor m (getD B i 0) < 256
+  place = within B i m (getD B i 0) (c .before .before .loop .inv .1) (omega (arith, c .shared-slice-known2 .given i))
+
+cast-m : tie.Need-cast-m Inv-loop μ-loop
+cast-m c = omega (arith, place c)
+
+array-read-m : tie.Need-array-read-m Inv-loop μ-loop
+array-read-m c = place c
 
 add-i : tie.Need-add-i Inv-loop μ-loop
 add-i c = omega arith
@@ -32,26 +60,26 @@ loop-less : tie.Need-loop-less Inv-loop μ-loop
 loop-less c = omega arith
 
 loop-again : tie.Need-loop-again Inv-loop μ-loop
+unfolding Remainders
 loop-again c =
-    let l = c .before .before .before .loop in
-    let b : List ℕ = c .before .before .before .before .before .args .bytes .now in (
+    let b : ℕ = getD (B c) (i c) 0 in
+    let l = c .before .before .loop in (
       omega arith,
-      subst⁻¹ (λ (x : ℕ). x < 128) (c .bring .ensures)
-          (divide-lt (low-digits 8 (getD b (l .i) 0)) (l .r) (l .inv .1)),
-      ap (λ (x : ℕ). divide x (bits (drop (l .i + 1) b))) (c .bring .ensures)
-          ∙ byte-down b (l .i) (l .r) (omega arith) ∙ l .inv .2,
+      l .inv .2 (bitXor (m c) b) (place c) ∙ ap (λ (x : ℕ). entering (bitXor x b)) (l .inv .1)
+          ∙ next-byte (B c) (i c) (omega arith),
+      l .inv .2,
     )
 
-bring-requires-2 : tie.Need-bring-requires-2 Inv-loop μ-loop
-bring-requires-2 c κs = omega arith
+mirror-requires : tie.Need-mirror-requires Inv-loop μ-loop
+mirror-requires c κs = tt
 
 returns : tie.Need-returns Inv-loop μ-loop
 returns c =
     let l = c .before .before .loop in
     let b : List ℕ = c .before .before .before .before .args .bytes .now in
-    c .bring2 .ensures
-    ∙ ap (λ (x : ℕ). divide x (lowBits 7 0)) (sym (all-down b (l .i) (l .r) (omega arith)) ∙ l .inv .2)
-    ∙ zeros-behind b
+    c .mirror .ensures ∙ ap mirrored (l .inv .1)
+    ∙ mirrored-twice (checkBits (take (l .i) b)) (check-lt (take (l .i) b))
+    ∙ ap checkBits (take-all (l .i) b (omega arith))
 
 pub check-bits-spec : {M : Type 1} → statement M
 check-bits-spec =
@@ -60,10 +88,11 @@ check-bits-spec =
     Inv-loop
     μ-loop
     loop-holds
-    shared-slice-read-bring
-    bring-requires
+    shared-slice-read-m
+    cast-m
+    array-read-m
     add-i
     loop-less
     loop-again
-    bring-requires-2
+    mirror-requires
     returns)
