@@ -143,18 +143,6 @@ parity-back b h e =
     eqb→eq (withParity (b % 128)) b
     (rw e at (at whole 256 all-whole b h))
 
--- ---- some bytes
-
--- where all are even, none is odd
-pub none-odd : (A : List ℕ) → T (allEven A) → odds A ≡ 0
-unfolding odds allEven
-none-odd [] t = refl
-none-odd (a ∷ A) t = go (even a) t (none-odd A)
-  where
-    go : (e : Bool) → T (e && allEven A) → (T (allEven A) → odds A ≡ 0) → cond e (odds A) (suc (odds A)) ≡ 0
-    go true u f = f u
-    go false u f = absurd u
-
 -- ---- what one turn of a loop does
 
 -- one byte seen

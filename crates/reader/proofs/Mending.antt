@@ -8,15 +8,14 @@ use lib.Dec.{T, eqb}
 use lib.ListN.{length, getD, take}
 use borrow.Author.Tests.{eqb-true}
 use Rattle.laws.proofs.Computed.{and-left, and-right, is-true, fails, holds}
-use Rattle.parity.specs.Parity.{even, odds}
-use Rattle.parity.proofs.Parities.{none-odd}
+use Rattle.parity.specs.Parity.{even, allEven, odds}
 use Rattle.validity.specs.Block.{codeBits, remainder, Valid}
 use Rattle.validity.specs.Changed.{Near, same, changed}
 use Rattle.validity.specs.Units.{unit}
 use Rattle.validity.proofs.Powers.{code-length}
 use Rattle.validity.proofs.Marks.{remainder-inj}
 use Rattle.validity.proofs.Validity.{valid-even, valid-remainder, valid-last, is-valid}
-use Rattle.validity.proofs.Odd.{Mends, mends-only, mends-where, all-even}
+use Rattle.validity.proofs.Odd.{Mends, mends-only, mends-where}
 use Rattle.reader.specs.declared.Verdict.the-variants.{Clean, Mended, Repeat}
 use Rattle.reader.specs.Judging.{mendable}
 use Rattle.reader.specs.Claims.{Right}
@@ -53,14 +52,14 @@ module _ (B : List ℕ) (l : length B ≡ 17) where
   not-zero z = repeated (λ v. z (valid-last B v)) (λ j h m. z (m .validation))
 
   -- all even and nothing left
-  pub clean : getD B 16 0 ≡ 0 → odds (take 16 B) ≡ 0 → remainder B ≡ 0 → Right B Clean
-  clean z o r = is-valid B l (all-even (take 16 B) o) r z
+  pub clean : getD B 16 0 ≡ 0 → T (allEven (take 16 B)) → remainder B ≡ 0 → Right B Clean
+  clean z e r = is-valid B l e r z
 
   -- not clean, and the remainder points to bit k
-  module _ (ne : odds (take 16 B) ≡ 0 → remainder B ≡ 0 → ⊥) (k : ℕ) (h : k < 128)
+  module _ (ne : T (allEven (take 16 B)) → remainder B ≡ 0 → ⊥) (k : ℕ) (h : k < 128)
       (p : remainder (unit k) ≡ remainder B) where
     not-valid : Valid B → ⊥
-    not-valid v = ne (none-odd (take 16 B) (valid-even B v)) (valid-remainder B v)
+    not-valid v = ne (valid-even B v) (valid-remainder B v)
 
     -- the only bit that could mend is the one pointed to
     only-there : (j : ℕ) → j < mendable → Mends j B → k ≡ j

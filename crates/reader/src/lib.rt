@@ -40,15 +40,16 @@ pub fn mend(block: &mut [u8]) -> Verdict
     if block[16] != 0 {
         return Verdict::Repeat;
     }
-    let odd = parity::odd_bytes(&block[..16]);
     let r = validity::remainder(block);
-    if odd == 0 && r == 0 {
+    let even = parity::are_even(&block[..16]);
+    if even && r == 0 {
         return Verdict::Clean;
     }
     let k = places::place(r);
     if 127 <= k {
         return Verdict::Repeat;
     }
+    let odd = parity::odd_bytes(&block[..16]);
     let at = (k / 8) as usize;
     if !is_the_odd_one(odd, block[at]) {
         return Verdict::Repeat;

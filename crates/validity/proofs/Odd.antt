@@ -17,7 +17,7 @@ use Rattle.division.specs.Division.{lowBits}
 use Rattle.division.proofs.Bytes.{low-digits}
 use Rattle.division.proofs.Linear.{low-sum}
 use Rattle.parity.specs.Parity.{ones, even, allEven, odds}
-use Rattle.parity.proofs.Parities.{ones-sum, none-odd}
+use Rattle.parity.proofs.Parities.{ones-sum}
 use Rattle.validity.specs.Block.{remainder, Valid}
 use Rattle.validity.specs.Changed.{flip}
 use Rattle.validity.specs.Units.{unit}
@@ -57,7 +57,16 @@ even-flip b j h =
 
 -- ---- some bytes
 
-pub all-even : (A : List ℕ) → odds A ≡ 0 → T (allEven A)
+none-odd : (A : List ℕ) → T (allEven A) → odds A ≡ 0
+unfolding odds allEven
+none-odd [] t = refl
+none-odd (a ∷ A) t = go (even a) t (none-odd A)
+  where
+    go : (e : Bool) → T (e && allEven A) → (T (allEven A) → odds A ≡ 0) → cond e (odds A) (suc (odds A)) ≡ 0
+    go true u f = f u
+    go false u f = absurd u
+
+all-even : (A : List ℕ) → odds A ≡ 0 → T (allEven A)
 unfolding odds allEven
 all-even [] e = tt
 all-even (a ∷ A) e = go (even a) e (all-even A)

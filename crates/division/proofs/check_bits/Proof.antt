@@ -6,6 +6,7 @@ use native.Mathlib.Omega.{arith}
 use lib.ListN.{length, getD, take}
 use lib.Seq.{take-all}
 use lib.Bits.{bitXor, xor-lt}
+use borrow.Author.Needs.{needs}
 use Rattle.division.specs.Division.{lowBits, bits, reduce, divide, checkBits}
 use Rattle.division.specs.Polynomials.{polynomial}
 use Rattle.division.specs.Table.{mirrored, entering, Remainders}
@@ -28,12 +29,6 @@ loop-holds c = (zero-le, refl, rule _ tt)
 shared-slice-read-m : tie.Need-shared-slice-read-m Inv-loop μ-loop
 shared-slice-read-m c = omega arith
 
--- the check bits so far and a byte, added, are a place of the table
-within : (B : List ℕ) (i m b : ℕ) → m ≡ mirrored (checkBits (take i B)) → b < 256 → bitXor m b < 256
-within B i m b e h =
-    let k = mirrored-lt (checkBits (take i B)) (check-lt (take i B)) in
-    xor-lt 8 m b (omega (arith, e, k)) h
-
 module _ (c : tie.After-shared-slice-known2 Inv-loop μ-loop) where
   abbrev B : List ℕ
   B = c .before .before .before .before .args .bytes .now
@@ -44,14 +39,21 @@ module _ (c : tie.After-shared-slice-known2 Inv-loop μ-loop) where
   abbrev m : ℕ
   m = c .before .before .loop .m
 
-  place : bitXor m (getD B i 0) < 256
-  place = within B i m (getD B i 0) (c .before .before .loop .inv .1) (omega (arith, c .shared-slice-known2 .given i))
+  m-lt : m < 256
+  m-lt =
+      let h = mirrored-lt (checkBits (take i B)) (check-lt (take i B)) in omega (arith, c .before .before .loop .inv .1, h)
+
+  byte-lt : getD B i 0 < 256
+  byte-lt = omega (arith, c .shared-slice-known2 .given i)
+
+wide : {n : ℕ} → n < 256 → n < 18446744073709551616
+wide h = omega (arith, h)
 
 cast-m : tie.Need-cast-m Inv-loop μ-loop
-cast-m c = omega (arith, place c)
+cast-m c = record { fits = wide (search (needs, xor-lt 8, m-lt c, byte-lt c)) }
 
 array-read-m : tie.Need-array-read-m Inv-loop μ-loop
-array-read-m c = place c
+array-read-m c = search (needs, xor-lt 8, m-lt c, byte-lt c)
 
 add-i : tie.Need-add-i Inv-loop μ-loop
 add-i c = omega arith
@@ -65,7 +67,7 @@ loop-again c =
     let b : ℕ = getD (B c) (i c) 0 in
     let l = c .before .before .loop in (
       omega arith,
-      l .inv .2 (bitXor (m c) b) (place c) ∙ ap (λ (x : ℕ). entering (bitXor x b)) (l .inv .1)
+      l .inv .2 (bitXor (m c) b) (xor-lt 8 (m c) b (m-lt c) (byte-lt c)) ∙ ap (λ (x : ℕ). entering (bitXor x b)) (l .inv .1)
           ∙ next-byte (B c) (i c) (omega arith),
       l .inv .2,
     )

@@ -6,9 +6,8 @@ use Prim.Native.Nat.{ℕ, _+_, _-_, _≤_, _<_}
 use native.Mathlib.Omega.{arith}
 use lib.ListN.{length, drop}
 use borrow.Author.Tests.{not-true, not-false}
-use Rattle.laws.proofs.Computed.{holds}
 use Rattle.parity.specs.Parity.{odds}
-use Rattle.parity.proofs.Parities.{none-odd, odds-turn, odds-done}
+use Rattle.parity.proofs.Parities.{odds-turn, odds-done}
 use Rattle.parity.proofs.odd_bytes.Statement.{statement}
 use Rattle.parity.proofs.odd_bytes.Tie as tie
 
@@ -17,13 +16,6 @@ Inv-loop bytes n₀ i₀ n i = (i ≤ length bytes) × (n ≤ i) × (n + odds (d
 
 abbrev μ-loop : tie.MeasureT-loop
 μ-loop bytes n₀ i₀ n i = length bytes - i
-
-are-even-requires : tie.Need-are-even-requires Inv-loop μ-loop
-are-even-requires c κs = tt
-
-returns : tie.Need-returns Inv-loop μ-loop
-returns c =
-    sym (none-odd (c .before .before .before .args .bytes .now) (holds (sym (c .before .are-even .ensures) ∙ c .if1 .taken)))
 
 loop-holds : tie.Need-loop-holds Inv-loop μ-loop
 loop-holds c = (omega arith, omega arith, omega arith)
@@ -47,7 +39,7 @@ loop-again : tie.Need-loop-again Inv-loop μ-loop
 loop-again c =
     let e = c .before in
     let l = e .before .before .before in
-    let b : List ℕ = l .before .before .before .before .args .bytes .now in
+    let b : List ℕ = l .before .before .args .bytes .now in
     let r = e .is-even .result in
     let h : l .loop .i < length b = omega arith in
     ⊎-elim
@@ -61,11 +53,11 @@ loop-again c =
       omega arith,
       omega (arith, w .1, odds-turn b (l .loop .i) h (sym (e .is-even .ensures) ∙ not-false r (w .0 .left))),
     ))
-    (c .if2 .came)
+    (c .if1 .came)
 
-returns-2 : tie.Need-returns-2 Inv-loop μ-loop
-returns-2 c =
-    let l = c .before in omega (arith, odds-done (l .before .before .before .before .args .bytes .now) (l .loop .i) (omega arith))
+returns : tie.Need-returns Inv-loop μ-loop
+returns c =
+    let l = c .before in omega (arith, odds-done (l .before .before .args .bytes .now) (l .loop .i) (omega arith))
 
 pub odd-bytes-spec : {M : Type 1} → statement M
 odd-bytes-spec =
@@ -73,8 +65,6 @@ odd-bytes-spec =
     (tie.spec
     Inv-loop
     μ-loop
-    are-even-requires
-    returns
     loop-holds
     shared-slice-read-is-even
     is-even-requires
@@ -82,4 +72,4 @@ odd-bytes-spec =
     add-i
     loop-less
     loop-again
-    returns-2)
+    returns)

@@ -5,11 +5,13 @@ use mathlib.Core.List.{List}
 use Prim.Native.Nat.{ℕ, _%_}
 use native.Mathlib.Nat.{mod-eq-of-lt}
 use native.Mathlib.Omega.{arith}
+use lib.Dec.{T}
 use lib.ListN.{length, getD, take}
 use lib.Seq.{length-take-le}
 use borrow.Author.Needs.{needs}
 use borrow.Author.Tests.{eqb-true, eqb-false, not-true, not-false}
-use Rattle.parity.specs.Parity.{odds}
+use Rattle.laws.proofs.Computed.{fails, holds}
+use Rattle.parity.specs.Parity.{allEven, odds}
 use Rattle.validity.specs.Block.{remainder}
 use Rattle.validity.specs.Units.{unit}
 use Rattle.validity.proofs.Powers.{remainder-lt}
@@ -19,12 +21,12 @@ use Rattle.reader.proofs.Mending.{not-zero, clean, not-mendable, elsewh
 use Rattle.reader.proofs.mend.Statement.{statement}
 use Rattle.reader.proofs.mend.Tie as tie
 
--- ---- what is known once the remainder is: the block has seventeen bytes, and the last is zero
+-- ---- what is known once parities and remainder are: the block has seventeen bytes, and the last is zero
 
-was : tie.After-remainder → List ℕ
+was : tie.After-are-even → List ℕ
 was a = a .before .before .before .before .before .before .before .before .args .block .now
 
-module _ (a : tie.After-remainder) where
+module _ (a : tie.After-are-even) where
   long : length (was a) ≡ 17
   unfolding was
   long = a .before .before .before .before .before .before .if1 .left
@@ -33,20 +35,21 @@ module _ (a : tie.After-remainder) where
   unfolding was
   zero-last = a .before .before .before .before .if2 .left
 
-  odd-is : a .before .before .odd-bytes .result ≡ odds (take 16 (was a))
+  even-is : a .are-even .result ≡ allEven (take 16 (was a))
   unfolding was
-  odd-is = a .before .before .odd-bytes .ensures
+  even-is = a .are-even .ensures
 
-  remainder-is : a .remainder .result ≡ remainder (was a)
+  remainder-is : a .before .before .remainder .result ≡ remainder (was a)
   unfolding was
-  remainder-is = a .remainder .ensures
+  remainder-is = a .before .before .remainder .ensures
 
 -- ---- and once the block is not clean
 
-not-clean : (j : tie.Joined3) → odds (take 16 (was (j .before))) ≡ 0 → remainder (was (j .before)) ≡ 0 → ⊥
-not-clean j o z =
-    ⊎-elim (λ w. eqb-false (j .before .remainder .result) 0 (w .1 .left) (remainder-is (j .before) ∙ z))
-    (λ w. w .left (odd-is (j .before) ∙ o)) (j .if3 .came)
+not-clean : (j : tie.Joined3) → T (allEven (take 16 (was (j .before)))) → remainder (was (j .before)) ≡ 0 → ⊥
+not-clean j e z =
+    let a = j .before in
+    ⊎-elim (λ w. eqb-false (a .before .before .remainder .result) 0 (w .1 .left) (remainder-is a ∙ z))
+    (λ w. fails (sym (even-is a) ∙ w .left) e) (j .if3 .came)
 
 -- ---- and once the place is found
 
@@ -60,6 +63,12 @@ module _ (p : tie.After-place) where
       let a = p .before .before in
       p .place .ensures .1 ∙ ap (λ (x : ℕ). x % 128) (remainder-is a) ∙ mod-eq-of-lt (remainder-lt (was a))
 
+-- ---- and once the odd bytes are counted
+
+odd-is : (o : tie.After-odd-bytes) → o .odd-bytes .result ≡ odds (take 16 (place-was (o .before .before .before)))
+unfolding was place-was
+odd-is o = o .odd-bytes .ensures
+
 returns : tie.Need-returns
 returns c = settled (c .before .before .args .block .now) WrongLength (c .if1 .taken) refl
 
@@ -72,18 +81,19 @@ returns-2 c =
     let b : List ℕ = e .before .before .args .block .now in
     settled b Repeat (not-zero b (e .if1 .left) (c .if2 .taken)) refl
 
-slice-reshare-prefix-odd-bytes : tie.Need-slice-reshare-prefix-odd-bytes
-slice-reshare-prefix-odd-bytes c = search needs
-
-slice-aggregate-odd-bytes : tie.Need-slice-aggregate-odd-bytes
-slice-aggregate-odd-bytes c =
-    let e = c .before .before .before in sym (length-take-le 16 (e .before .before .args .block .now) (omega arith))
-
-odd-bytes-requires : tie.Need-odd-bytes-requires
-odd-bytes-requires c κs = search needs
-
 remainder-requires : tie.Need-remainder-requires
 remainder-requires c κs = search needs
+
+slice-reshare-prefix-are-even : tie.Need-slice-reshare-prefix-are-even
+slice-reshare-prefix-are-even c = search needs
+
+slice-aggregate-are-even : tie.Need-slice-aggregate-are-even
+slice-aggregate-are-even c =
+    let e = c .before .before .before .before .before in
+    sym (length-take-le _ (e .before .before .args .block .now) (omega arith))
+
+are-even-requires : tie.Need-are-even-requires
+are-even-requires c κs = search needs
 
 same-length : tie.Need-same-length
 same-length c = search needs
@@ -93,8 +103,8 @@ unfolding was
 returns-3 c =
     let a = c .before .before in
     settled (was a) Clean
-    (clean (was a) (long a) (zero-last a) (sym (odd-is a) ∙ c .before .if3 .taken)
-    (sym (remainder-is a) ∙ eqb-true (a .remainder .result) 0 (c .if4 .taken))) refl
+    (clean (was a) (long a) (zero-last a) (holds (sym (even-is a) ∙ c .before .if3 .taken))
+    (sym (remainder-is a) ∙ eqb-true (a .before .before .remainder .result) 0 (c .if4 .taken))) refl
 
 same-length-2 : tie.Need-same-length-2
 same-length-2 c = search needs
@@ -111,6 +121,18 @@ returns-4 c =
     (not-mendable (was a) (long a) (not-clean (p .before)) (p .place .result) (p .place .ensures .0) (points p)
     (c .if5 .taken)) refl
 
+slice-reshare-prefix-odd-bytes : tie.Need-slice-reshare-prefix-odd-bytes
+slice-reshare-prefix-odd-bytes c = search needs
+
+slice-aggregate-odd-bytes : tie.Need-slice-aggregate-odd-bytes
+unfolding was place-was
+slice-aggregate-odd-bytes c =
+    let b : List ℕ = place-was (c .before .before) in
+    sym (length-take-le 16 b (omega (arith, long (c .before .before .before .before))))
+
+odd-bytes-requires : tie.Need-odd-bytes-requires
+odd-bytes-requires c κs = search needs
+
 cast-at : tie.Need-cast-at
 cast-at c = search needs
 
@@ -126,11 +148,12 @@ same-length-3 c = search needs
 returns-5 : tie.Need-returns-5
 unfolding was place-was
 returns-5 c =
-    let p = c .before .before .before .before in
+    let o = c .before .before .before in
+    let p = o .before .before .before in
     let a = p .before .before in
     settled (was a) Repeat
     (elsewhere (was a) (long a) (not-clean (p .before)) (p .place .result) (p .place .ensures .0) (points p)
-    (simp (← odd-is a, ← c .before .is-the-odd-one .ensures)
+    (simp (← odd-is o, ← c .before .is-the-odd-one .ensures)
     (not-true (c .before .is-the-odd-one .result) (c .if6 .taken)))) refl
 
 cast-flip : tie.Need-cast-flip
@@ -147,12 +170,13 @@ unfolding was place-was
 returns-6 c =
     let f = c .before .before in
     let e = f .before .before in
-    let p = e .before .before .before .before in
+    let o = e .before .before .before in
+    let p = o .before .before .before in
     let a = p .before .before in
     settled (was a) (Mended (p .place .result))
     (mended (was a) (long a) (not-clean (p .before)) (p .place .result) (p .place .ensures .0) (points p) (zero-last a)
-    (e .before .before .before .if5 .left)
-    (simp (← odd-is a, ← e .before .is-the-odd-one .ensures)
+    (o .before .before .if5 .left)
+    (simp (← odd-is o, ← e .before .is-the-odd-one .ensures)
     (not-false (e .before .is-the-odd-one .result) (e .if6 .left)))) (f .flip .ensures)
 
 pub mend-spec : {M : Type 1} → statement M
@@ -162,15 +186,18 @@ mend-spec =
     returns
     slice-read-if2
     returns-2
-    slice-reshare-prefix-odd-bytes
-    slice-aggregate-odd-bytes
-    odd-bytes-requires
     remainder-requires
+    slice-reshare-prefix-are-even
+    slice-aggregate-are-even
+    are-even-requires
     same-length
     returns-3
     place-requires
     same-length-2
     returns-4
+    slice-reshare-prefix-odd-bytes
+    slice-aggregate-odd-bytes
+    odd-bytes-requires
     cast-at
     slice-read-is-the-odd-one
     is-the-odd-one-requires
