@@ -1,13 +1,15 @@
 // Demand 2: blocks are made and read by the Minitel 1B specification. What the maker writes the reader hands back;
 // a block read clean is what the maker would write.
 ghost use mathlib.Core.Path.{_≡_};
-ghost use mathlib.Core.List.{List, _++_};
+ghost use mathlib.Core.List.{List, [], _∷_, _++_};
 ghost use mathlib.Core.Logic.{_↔_};
 ghost use Prim.Native.Nat.{ℕ, _+_, _-_, _^_, _≤_, _<_};
+ghost use lib.Bits.{bitXor};
 ghost use lib.ListN.{length, getD, set, take, drop, replicate};
 ghost use Rattle.values.specs.Large.{Values};
-ghost use Rattle.division.specs.Division.{bits};
+ghost use Rattle.division.specs.Division.{bits, checkBits};
 ghost use Rattle.division.specs.Polynomials.{polynomial, GeneratorDivides};
+ghost use Rattle.division.specs.Table.{mirrored, entering};
 ghost use Rattle.validity.specs.Block.{codeBits, remainder, Valid, Bytes};
 ghost use Rattle.validity.specs.Changed.{flip};
 ghost use Rattle.validity.specs.Units.{unit};
@@ -18,6 +20,15 @@ ghost use Rattle.reader.specs.Judging.{verdict, handed, mendable};
 // The remainder is zero exactly when the generator x^7 + x^3 + 1 divides the code bits as a polynomial.
 pub fn nothing_is_left_exactly_when_the_generator_divides()
     ensures { λ _. ⌜ ((B : List ℕ) → remainder B ≡ 0 ↔ GeneratorDivides (codeBits B)) ⌝ }
+{}
+
+// Why a table of 256 is enough: behind any bytes, one byte more leaves what it would leave alone once the check bits so
+// far, mirrored, are added to it; that sum is a byte again; and mirrored twice, check bits are themselves.
+pub fn a_byte_enters_the_division_in_one_step()
+    ensures { λ _. ⌜ ((B : List ℕ) (b : ℕ)
+        → mirrored (checkBits (B ++ (b ∷ []))) ≡ entering (bitXor (mirrored (checkBits B)) b)) ⌝ }
+    ensures place { λ _. ⌜ ((B : List ℕ) (b : ℕ) → b < 256 → bitXor (mirrored (checkBits B)) b < 256) ⌝ }
+    ensures back { λ _. ⌜ ((B : List ℕ) → mirrored (mirrored (checkBits B)) ≡ checkBits B) ⌝ }
 {}
 
 // The bit in place k of bytes 1 to 15 stands for power 126 - k; weight 2^i of byte 16, in place 120 + i, stands for

@@ -2,6 +2,7 @@
 // far as the papers go, and the papers where these decide.
 
 // a block
+pub use block_demands::demand_two::a_byte_enters_the_division_in_one_step;
 pub use block_demands::demand_two::changing_a_bit_changes_that_bit_alone;
 pub use block_demands::demand_two::each_code_bit_stands_for_its_power;
 pub use block_demands::demand_two::nothing_is_left_exactly_when_the_generator_divides;

@@ -6,17 +6,18 @@ use mathlib.Core.List.{List, [], _∷_, _++_, append-assoc, append-nil}
 use Prim.Native.Nat.{ℕ, _+_, _<_}
 use native.Mathlib.Nat.{zero-lt-suc}
 use native.Mathlib.Numerals.{add-one}
+use native.Mathlib.Omega.{arith}
 use lib.Dec.{T, eqb, ltb, eqb→eq, ltb→lt}
 use lib.ListN.{length, getD, take}
 use lib.Seq.{take-suc}
-use lib.Bits.{bitXor, xor-zero-r, xor-comm}
+use lib.Bits.{bitXor, xor-lt, xor-zero-r, xor-comm}
 use Rattle.laws.proofs.Computed.{at, below, and-left, and-right}
 use Rattle.laws.proofs.Sums.{sum-append}
 use Rattle.division.specs.Division.{lowBits, bits, reduce, divide, checkBits}
 use Rattle.division.specs.Polynomials.{polynomial}
 use Rattle.division.specs.Table.{mirrored, entering, Remainders}
 use Rattle.division.proofs.Bytes.{low-digits, append-digits, bits-digits, bits-append}
-use Rattle.division.proofs.Steps.{divide-append, divide-lt, zeros-behind}
+use Rattle.division.proofs.Steps.{divide-append, divide-lt, zeros-behind, check-lt}
 use Rattle.division.proofs.Linear.{divide-sum, low-sum}
 
 -- ---- the rule of a table: one test over all its entries, and the law that carries it to each
@@ -44,11 +45,11 @@ module _ (c : ℕ) (h : c < 128) where
   abbrev small : Bool
   small = ltb (mirrored c) 128
 
-  pub mirrored-twice : mirrored (mirrored c) ≡ c
+  mirrored-twice : mirrored (mirrored c) ≡ c
   unfolding turned
   mirrored-twice = eqb→eq (mirrored (mirrored c)) c (and-left back small (at turned 128 all-turned c h))
 
-  pub mirrored-lt : mirrored c < 128
+  mirrored-lt : mirrored c < 128
   unfolding turned
   mirrored-lt = ltb→lt (mirrored c) 128 (and-right back small (at turned 128 all-turned c h))
 
@@ -116,6 +117,16 @@ byte-more B b =
     (behind B b ∙ entered (divide 0 (bits B)) b (below-128 B)
     ∙ ap (λ (c : ℕ). divide 0 (lowBits 8 (bitXor (mirrored c) b) ++ zeros)) (zeros-behind B)
     ∙ sym (one (bitXor (mirrored (checkBits B)) b)))
+
+-- what is added to a byte is below 128, so that their sum is a byte again; mirrored again it is the check bits
+pub so-far-lt : (B : List ℕ) → mirrored (checkBits B) < 128
+so-far-lt B = mirrored-lt (checkBits B) (check-lt B)
+
+pub place-lt : (B : List ℕ) (b : ℕ) → b < 256 → bitXor (mirrored (checkBits B)) b < 256
+place-lt B b h = xor-lt 8 (mirrored (checkBits B)) b (omega (arith, so-far-lt B)) h
+
+pub back-again : (B : List ℕ) → mirrored (mirrored (checkBits B)) ≡ checkBits B
+back-again B = mirrored-twice (checkBits B) (check-lt B)
 
 -- the first i bytes and the next
 pub next-byte : (B : List ℕ) (i : ℕ) → i < length B

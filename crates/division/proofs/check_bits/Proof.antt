@@ -10,8 +10,7 @@ use borrow.Author.Needs.{needs}
 use Rattle.division.specs.Division.{lowBits, bits, reduce, divide, checkBits}
 use Rattle.division.specs.Polynomials.{polynomial}
 use Rattle.division.specs.Table.{mirrored, entering, Remainders}
-use Rattle.division.proofs.Steps.{check-lt}
-use Rattle.division.proofs.Entering.{rule, next-byte, mirrored-lt, mirrored-twice}
+use Rattle.division.proofs.Entering.{rule, next-byte, so-far-lt, back-again}
 use Rattle.division.proofs.check_bits.Statement.{statement}
 use Rattle.division.proofs.check_bits.Tie as tie
 
@@ -40,8 +39,7 @@ module _ (c : tie.After-shared-slice-known2 Inv-loop μ-loop) where
   m = c .before .before .loop .m
 
   m-lt : m < 256
-  m-lt =
-      let h = mirrored-lt (checkBits (take i B)) (check-lt (take i B)) in omega (arith, c .before .before .loop .inv .1, h)
+  m-lt = omega (arith, c .before .before .loop .inv .1, so-far-lt (take i B))
 
   byte-lt : getD B i 0 < 256
   byte-lt = omega (arith, c .shared-slice-known2 .given i)
@@ -79,8 +77,7 @@ returns : tie.Need-returns Inv-loop μ-loop
 returns c =
     let l = c .before .before .loop in
     let b : List ℕ = c .before .before .before .before .args .bytes .now in
-    c .mirror .ensures ∙ ap mirrored (l .inv .1)
-    ∙ mirrored-twice (checkBits (take (l .i) b)) (check-lt (take (l .i) b))
+    c .mirror .ensures ∙ ap mirrored (l .inv .1) ∙ back-again (take (l .i) b)
     ∙ ap checkBits (take-all (l .i) b (omega arith))
 
 pub check-bits-spec : {M : Type 1} → statement M
