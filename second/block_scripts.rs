@@ -98,6 +98,21 @@ pub fn hit_once() -> Script {
     script
 }
 
+/// Each of the 256 bytes at each useful place: a value with its parity bit, and
+/// the same with that bit hit, the other values NUL.
+pub fn every_byte() -> Script {
+    let mut script = Script::trying(
+        "Each of the 256 bytes at each useful place, in a block right but for its parity.",
+    );
+    for place in 0..USEFUL {
+        script.comment(&format!("byte {}", place + 1));
+        for byte in 0..=255 {
+            script.line(judge(&block_with(place, byte)));
+        }
+    }
+    script
+}
+
 /// Every double hit on the same two blocks.
 pub fn hit_twice() -> Script {
     let mut script = Script::trying("Every one of the 9,180 double hits on each of two blocks.");
@@ -127,6 +142,19 @@ pub fn damaged() -> Script {
         script.line(judge(&random_bytes(&mut random, LENGTH)));
     }
     script
+}
+
+/// The block of one value that has this byte at its place, its parity bit hit
+/// where the byte is odd.
+fn block_with(place: usize, byte: u8) -> Block {
+    let mut values = [0; USEFUL];
+    values[place] = block::without_parity(byte);
+    let formed = block::form(&values);
+    if formed[place] == byte {
+        formed
+    } else {
+        block::hit(formed, 8 * place + 7)
+    }
 }
 
 /// The block with one byte replaced; bytes count from 1, as on the cards.

@@ -60,10 +60,11 @@ use script::Script;
 use stored_files::Stored;
 
 /// Every stored script. A new family of commands adds its own here.
-const STORED: [Stored<Script>; 35] = [
+const STORED: [Stored<Script>; 36] = [
     ("cards", block_scripts::cards),
     ("making", block_scripts::making),
     ("lengths", block_scripts::lengths),
+    ("every-byte", block_scripts::every_byte),
     ("hit-once", block_scripts::hit_once),
     ("hit-twice", block_scripts::hit_twice),
     ("damaged", block_scripts::damaged),

@@ -1,10 +1,11 @@
-// Parity (01: "with parity"; 001, section 5-1-2): whether a byte has an even number of ones, how many bytes have
-// not, and a value with parity. specs/Parity is the words; proofs/Parities has their laws: parity adds up like the
-// bits do, a value with parity is even, and without it is the value again.
+// Parity (01: "with parity"; 001, section 5-1-2): whether a byte has an even number of ones, whether all of some bytes
+// have, how many have not, and a value with parity. specs/Parity is the words; proofs/Parities has their laws: parity
+// adds up like the bits do, a value with parity is even, and without it is the value again.
 ghost use mathlib.Core.Path.{_≡_};
 ghost use Rattle.parity.specs.Parity.{even, allEven, odds, withParity};
 
-// Whether a byte has an even number of ones: its halves are added until one bit is left, which is 0 then.
+// Whether a byte has an even number of ones: its halves are added until one bit is left, which is 0 then. There is no
+// loop over its bits, so that many bytes can be taken at once.
 pub fn is_even(byte: u8) -> bool
     ensures { λ r. ⌜ r ≡ even byte ⌝ }
 {
@@ -14,7 +15,8 @@ pub fn is_even(byte: u8) -> bool
     one % 2 == 0
 }
 
-// Whether all of some bytes have. Each is looked at, those behind an odd one too: so a compiler can take many at once.
+// Whether all of some bytes have. Each is looked at, those behind an odd one too: a loop that can end early at each byte
+// keeps a compiler from taking many at once.
 pub fn are_even(bytes: &[u8]) -> bool
     ensures { λ r. ⌜ r ≡ allEven (now (bytes .entry)) ⌝ }
 {

@@ -29,7 +29,7 @@ fn is_the_odd_one(odd: usize, byte: u8) -> bool
 
 // A block judged in place, of any length: the verdict, and the block as it is left. One changed bit turns the
 // parity of its byte and leaves its own remainder, so it can be mended where one byte alone is odd and the
-// remainder points into it.
+// remainder points into it. Most blocks are clean: odd bytes are counted only where that is not yet settled.
 pub fn mend(block: &mut [u8]) -> Verdict
     ensures { λ r. ⌜ (told r ≡ judged (now (block .entry)))
         × (now (block .exit) ≡ left (now (block .entry))) ⌝ }
