@@ -4,14 +4,14 @@
 //!
 //! bit_by_bit MODE FILE  where MODE is read, judge or write-judge, as in peer.rs
 //!
-//! portions.rs, verdicts.rs and hex.rs are shared with the peer; its judge is not.
+//! running.rs, portions.rs, verdicts.rs and hex.rs are shared with the peer; its judge is not.
 
 mod hex;
 mod portions;
+mod running;
 mod verdicts;
 
-use std::env;
-use std::io::{stdout, BufWriter, Error, ErrorKind, Result, Write};
+use std::io::{Error, ErrorKind, Result, Write};
 use std::process::ExitCode;
 
 use verdicts::{judge_file, Verdict, BLOCK};
@@ -96,14 +96,5 @@ fn obey(words: &[&str], out: &mut impl Write) -> Result<()> {
 }
 
 fn main() -> ExitCode {
-    let arguments: Vec<String> = env::args().skip(1).collect();
-    let words: Vec<&str> = arguments.iter().map(String::as_str).collect();
-    let mut out = BufWriter::new(stdout().lock());
-    match obey(&words, &mut out).and_then(|()| out.flush()) {
-        Ok(()) => ExitCode::SUCCESS,
-        Err(error) => {
-            eprintln!("bit_by_bit: {error}");
-            ExitCode::FAILURE
-        }
-    }
+    running::run("bit_by_bit", obey)
 }

@@ -22,6 +22,7 @@
 //!
 //! Shared with bit_by_bit.rs, the other program of this folder:
 //!
+//! running.rs   a program run on its arguments
 //! portions.rs  files read in portions
 //! verdicts.rs  verdicts, and the mode judge
 //! hex.rs       bytes in base sixteen
@@ -34,12 +35,12 @@ mod modes;
 mod portions;
 mod receiver;
 mod records;
+mod running;
 mod screen;
 mod texts;
 mod verdicts;
 
-use std::env;
-use std::io::{stdout, BufWriter, Error, ErrorKind, Result, Write};
+use std::io::{Error, ErrorKind, Result, Write};
 use std::process::ExitCode;
 
 const USAGE: &str = "usage: peer MODE FILE... | peer make (plain | upset | night) SEED BLOCKS";
@@ -90,14 +91,5 @@ fn obey(words: &[&str], out: &mut impl Write) -> Result<()> {
 }
 
 fn main() -> ExitCode {
-    let arguments: Vec<String> = env::args().skip(1).collect();
-    let words: Vec<&str> = arguments.iter().map(String::as_str).collect();
-    let mut out = BufWriter::new(stdout().lock());
-    match obey(&words, &mut out).and_then(|()| out.flush()) {
-        Ok(()) => ExitCode::SUCCESS,
-        Err(error) => {
-            eprintln!("peer: {error}");
-            ExitCode::FAILURE
-        }
-    }
+    running::run("peer", obey)
 }
