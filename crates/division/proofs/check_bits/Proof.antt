@@ -21,6 +21,7 @@ Inv-loop bytes table m₀ i₀ m i =
 abbrev μ-loop : tie.MeasureT-loop
 μ-loop bytes table m₀ i₀ m i = length bytes - i
 
+-- the table's rule is shown here, once: the last part is the test over all 256 entries, computed
 loop-holds : tie.Need-loop-holds Inv-loop μ-loop
 unfolding checkBits bits divide reduce lowBits mirrored polynomial entering
 loop-holds c = (zero-le, refl, rule _ tt)
