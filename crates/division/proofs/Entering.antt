@@ -1,17 +1,17 @@
 -- How a byte enters the division in one step: the check bits so far, mirrored, are added to it, and it leaves what it
 -- would leave alone. So a table with an entry for each byte is enough. Assumes nothing.
 use mathlib.Core.Path.{_≡_, sym, ap, ap₂, _∙_}
-use mathlib.Core.Bool.{Bool, _&&_}
+use mathlib.Core.Bool.{Bool}
 use mathlib.Core.List.{List, [], _∷_, _++_, append-assoc, append-nil}
 use Prim.Native.Nat.{ℕ, _+_, _<_}
 use native.Mathlib.Nat.{zero-lt-suc}
 use native.Mathlib.Numerals.{add-one}
 use native.Mathlib.Omega.{arith}
-use lib.Dec.{T, eqb, ltb, eqb→eq, ltb→lt}
+use lib.Dec.{T, ltb, ltb→lt}
 use lib.ListN.{length, getD, take}
 use lib.Seq.{take-suc}
 use lib.Bits.{bitXor, xor-lt, xor-zero-r, xor-comm}
-use Rattle.laws.proofs.Computed.{at, below, and-left, and-right}
+use Rattle.laws.proofs.Computed.{below, at, Equal, equal-at}
 use Rattle.laws.proofs.Sums.{sum-append}
 use Rattle.division.specs.Division.{lowBits, bits, reduce, divide, checkBits}
 use Rattle.division.specs.Polynomials.{polynomial}
@@ -22,55 +22,37 @@ use Rattle.division.proofs.Linear.{divide-sum, low-sum}
 
 -- ---- the rule of a table: one test over all its entries, and the law that carries it to each
 
-abbrev pub is-right : List ℕ → ℕ → Bool
-is-right table b = eqb (getD table b 0) (entering b)
-
-pub rule : (table : List ℕ) → T (below (is-right table) 256) → Remainders table
+pub rule : (table : List ℕ) → Equal (λ b. getD table b 0) entering 256 → Remainders table
 unfolding Remainders
-rule table t b h = eqb→eq (getD table b 0) (entering b) (at (is-right table) 256 t b h)
+rule table = equal-at (λ b. getD table b 0) entering 256
 
 -- ---- seven bits mirrored
 
-turned : ℕ → Bool
-turned c = eqb (mirrored (mirrored c)) c && ltb (mirrored c) 128
+all-back : Equal (λ c. mirrored (mirrored c)) (λ c. c) 128
+unfolding lowBits mirrored polynomial
+all-back = tt
 
-all-turned : T (below turned 128)
-unfolding turned lowBits mirrored polynomial
-all-turned = tt
+small : ℕ → Bool
+small c = ltb (mirrored c) 128
 
-module _ (c : ℕ) (h : c < 128) where
-  abbrev back : Bool
-  back = eqb (mirrored (mirrored c)) c
-
-  abbrev small : Bool
-  small = ltb (mirrored c) 128
-
-  mirrored-twice : mirrored (mirrored c) ≡ c
-  unfolding turned
-  mirrored-twice = eqb→eq (mirrored (mirrored c)) c (and-left back small (at turned 128 all-turned c h))
-
-  mirrored-lt : mirrored c < 128
-  unfolding turned
-  mirrored-lt = ltb→lt (mirrored c) 128 (and-right back small (at turned 128 all-turned c h))
+all-small : T (below small 128)
+unfolding small lowBits mirrored polynomial
+all-small = tt
 
 -- ---- a remainder before eight bits is its check bits, mirrored, added to them
 
 abbrev zeros : List ℕ
 zeros = lowBits 7 0
 
-added : ℕ → Bool
-added r = eqb (divide r (lowBits 8 0 ++ zeros)) (divide 0 (lowBits 8 (mirrored (divide r zeros)) ++ zeros))
+abbrev before : ℕ → ℕ
+before r = divide r (lowBits 8 0 ++ zeros)
 
-all-added : T (below added 128)
-unfolding added lowBits reduce divide mirrored polynomial
+abbrev added : ℕ → ℕ
+added r = divide 0 (lowBits 8 (mirrored (divide r zeros)) ++ zeros)
+
+all-added : Equal before added 128
+unfolding lowBits reduce divide mirrored polynomial
 all-added = tt
-
-as-bits : (r : ℕ) → r < 128
-    → divide r (lowBits 8 0 ++ zeros) ≡ divide 0 (lowBits 8 (mirrored (divide r zeros)) ++ zeros)
-unfolding added
-as-bits r h =
-    eqb→eq (divide r (lowBits 8 0 ++ zeros)) (divide 0 (lowBits 8 (mirrored (divide r zeros)) ++ zeros))
-    (at added 128 all-added r h)
 
 -- eight bits of x behind r, and eight of y behind s, seven zeros behind each: what the sums leave is the sum
 split : (r s x y : ℕ) → r < 128 → s < 128 → divide (bitXor r s) (lowBits 8 (bitXor x y) ++ zeros)
@@ -88,7 +70,7 @@ entered r b h =
     let m : ℕ = mirrored (divide r zeros) in
     sym (ap₂ (λ (x y : ℕ). divide x (lowBits 8 y ++ zeros)) (xor-zero-r r) (zero-l b))
     ∙ split r 0 0 b h (zero-lt-suc 127)
-    ∙ ap (λ (x : ℕ). bitXor x (divide 0 (lowBits 8 b ++ zeros))) (as-bits r h)
+    ∙ ap (λ (x : ℕ). bitXor x (divide 0 (lowBits 8 b ++ zeros))) (equal-at before added 128 all-added r h)
     ∙ sym (split 0 0 m b (zero-lt-suc 127) (zero-lt-suc 127))
     ∙ ap (λ (x : ℕ). divide x (lowBits 8 (bitXor m b) ++ zeros)) (xor-zero-r 0)
 
@@ -120,13 +102,14 @@ byte-more B b =
 
 -- what is added to a byte is below 128, so that their sum is a byte again; mirrored again it is the check bits
 pub so-far-lt : (B : List ℕ) → mirrored (checkBits B) < 128
-so-far-lt B = mirrored-lt (checkBits B) (check-lt B)
+unfolding small
+so-far-lt B = ltb→lt (mirrored (checkBits B)) 128 (at small 128 all-small (checkBits B) (check-lt B))
 
 pub place-lt : (B : List ℕ) (b : ℕ) → b < 256 → bitXor (mirrored (checkBits B)) b < 256
 place-lt B b h = xor-lt 8 (mirrored (checkBits B)) b (omega (arith, so-far-lt B)) h
 
 pub back-again : (B : List ℕ) → mirrored (mirrored (checkBits B)) ≡ checkBits B
-back-again B = mirrored-twice (checkBits B) (check-lt B)
+back-again B = equal-at (λ c. mirrored (mirrored c)) (λ c. c) 128 all-back (checkBits B) (check-lt B)
 
 -- the first i bytes and the next
 pub next-byte : (B : List ℕ) (i : ℕ) → i < length B

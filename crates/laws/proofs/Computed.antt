@@ -6,7 +6,7 @@ use mathlib.Core.List.{List, [], _∷_}
 use mathlib.Core.Logic.{_⊎_, inl, inr, ⊎-elim}
 use Prim.Native.Nat.{ℕ, zero, suc, _≤_, _<_}
 use native.Mathlib.Nat.{le-of-suc-le-suc, not-suc-le-zero, eq-or-lt-of-le}
-use lib.Dec.{T, ltb}
+use lib.Dec.{T, eqb, ltb, eqb→eq}
 use borrow.Author.Tests.{ltb-true, ltb-false}
 
 -- ---- tests
@@ -78,3 +78,10 @@ at f zero t k h = absurd (not-suc-le-zero h)
 at f (suc n) t k h =
     ⊎-elim (λ (e : k ≡ n). subst⁻¹ (λ (m : ℕ). T (f m)) e (and-left (f n) (below f n) t))
     (λ l. at f n (and-right (f n) (below f n) t) k l) (eq-or-lt-of-le (le-of-suc-le-suc h))
+
+-- two functions that agree below n, as a test and as a fact
+abbrev pub Equal : (ℕ → ℕ) → (ℕ → ℕ) → ℕ → Type 0
+Equal f g n = T (below (λ k. eqb (f k) (g k)) n)
+
+pub equal-at : (f g : ℕ → ℕ) (n : ℕ) → Equal f g n → (k : ℕ) → k < n → f k ≡ g k
+equal-at f g n t k h = eqb→eq (f k) (g k) (at (λ (i : ℕ). eqb (f i) (g i)) n t k h)

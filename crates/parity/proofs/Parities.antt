@@ -11,7 +11,7 @@ use lib.ListN.{length, getD, drop, drop-of-length-le}
 use lib.Seq.{drop-cons}
 use lib.Dec.{T, eqb, eqb→eq}
 use lib.Bits.{bitXor}
-use Rattle.laws.proofs.Computed.{below, at, and-left, and-right}
+use Rattle.laws.proofs.Computed.{below, at, Equal, equal-at, and-left, and-right}
 use Rattle.laws.proofs.Xor.{digit-xor, digit-sum}
 use Rattle.laws.proofs.Sums.{Sum, none, more}
 use Rattle.division.specs.Division.{lowBits, bits}
@@ -111,18 +111,15 @@ parity-even v =
     subst-even e t = rw e at t
 
 -- the parity bit is there where the seven others are odd
-like : ℕ → Bool
-like v = eqb (withParity v) (cond (even v) v (v + 128))
+abbrev like : ℕ → ℕ
+like v = cond (even v) v (v + 128)
 
-all-like : T (below like 128)
-unfolding like withParity even ones lowBits
+all-like : Equal withParity like 128
+unfolding withParity even ones lowBits
 all-like = tt
 
 pub parity-is : (v : ℕ) {t : Bool} → v < 128 → even v ≡ t → withParity v ≡ cond t v (v + 128)
-unfolding like
-parity-is v h e =
-    eqb→eq (withParity v) (cond (even v) v (v + 128)) (at like 128 all-like v h)
-    ∙ ap (λ (t : Bool). cond t v (v + 128)) e
+parity-is v h e = equal-at withParity like 128 all-like v h ∙ ap (λ (t : Bool). cond t v (v + 128)) e
 
 -- without parity it is the value again
 pub parity-off : (v : ℕ) → v < 128 → withParity v % 128 ≡ v

@@ -1,10 +1,8 @@
 -- `division::mirror` meets its contract: what it makes of a byte is computed at all 256. Assumes nothing.
-use mathlib.Core.Bool.{Bool}
 use Prim.Native.Nat.{ℕ, _*_, _/_, _%_}
-use lib.Dec.{T, eqb, eqb→eq}
 use lib.Bits.{bitAnd, bitOr}
 use borrow.Author.Needs.{needs}
-use Rattle.laws.proofs.Computed.{below, at}
+use Rattle.laws.proofs.Computed.{equal-at}
 use Rattle.division.specs.Division.{lowBits}
 use Rattle.division.specs.Polynomials.{polynomial}
 use Rattle.division.specs.Table.{mirrored}
@@ -18,16 +16,9 @@ made c =
     = bitOr (bitOr (bitAnd c 1 * 64 % 256) (bitAnd c 2 * 16 % 256)) (bitAnd c 4 * 4 % 256) in
     bitOr (bitOr (bitOr (bitOr up (bitAnd c 8)) (bitAnd c 16 / 4)) (bitAnd c 32 / 16)) (bitAnd c 64 / 64)
 
-right : ℕ → Bool
-right c = eqb (made c) (mirrored c)
-
-all-right : T (below right 256)
-unfolding right lowBits mirrored polynomial
-all-right = tt
-
 returns : tie.Need-returns
-unfolding right
-returns c = eqb→eq (made (c .args .c)) (mirrored (c .args .c)) (at right 256 all-right (c .args .c) (search needs))
+unfolding lowBits mirrored polynomial
+returns c = equal-at made mirrored 256 tt (c .args .c) (search needs)
 
 pub mirror-spec : {M : Type 1} → statement M
 mirror-spec = tie.close (tie.spec returns)
