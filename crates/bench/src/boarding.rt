@@ -50,7 +50,7 @@ fn hear_portion(play: Play, piece: &[u8], writing: bool) -> Play {
     let mut modem = [0u8; ROOM];
     let mut socket = [0u8; ROOM];
     let mut requests = [0u8; ROOM];
-    let heard = pieces::lines(
+    let heard = board_pieces::lines(
         play.board,
         piece,
         &mut keyboard,

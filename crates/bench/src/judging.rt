@@ -4,7 +4,7 @@ use crate::texts::put;
 use crate::texts::put_bytes;
 use crate::texts::put_number;
 use crate::texts::sum;
-use reader::Verdict;
+use block_reader::Verdict;
 
 pub(crate) struct Counts {
     clean: u64,
@@ -51,7 +51,7 @@ pub(crate) fn put_verdict(verdict: Verdict) {
 
 // A block of any length: its verdict, and where that is wanted the block as it is left.
 fn judge_one(block: &mut [u8], writing: bool) -> Verdict {
-    let verdict = reader::mend(block);
+    let verdict = block_reader::mend(block);
     if writing {
         put_bytes(b"", block);
         put(b" ");

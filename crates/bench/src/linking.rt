@@ -7,8 +7,8 @@ use crate::texts::put;
 use crate::texts::put_lines;
 use crate::texts::put_number;
 use crate::texts::sum;
-use feeding::Outlet;
-use feeding::Shares;
+use board_feeding::Outlet;
+use board_feeding::Shares;
 use links::Links;
 
 // Links, and how many bytes each module got.
@@ -72,7 +72,7 @@ fn value_at(rest: &[u8], i: usize) -> u8 {
 fn feed_next(handed: Handed, rest: &[u8], writing: bool) -> Handed {
     let group = taken(rest);
     let values = group.values;
-    let fed = feeding::feed(handed.links, values, rest.len());
+    let fed = board_feeding::feed(handed.links, values, rest.len());
     let links = fed.links;
     let shares = fed.shares;
     if writing {

@@ -6,14 +6,14 @@ use crate::texts::first;
 use crate::texts::put;
 use crate::texts::put_bytes;
 use crate::texts::put_number;
-use attributes::Attributes;
-use attributes::Waiting;
-use cells::Cell;
-use cursor::Place;
-use page::Screen;
-use pen::Last;
-use pen::Pen;
-use sequences::Sequence;
+use screen_attributes::Attributes;
+use screen_attributes::Waiting;
+use screen_cells::Cell;
+use screen_cursor::Place;
+use screen_page::Screen;
+use screen_pen::Last;
+use screen_pen::Pen;
+use screen_sequences::Sequence;
 
 // Set, code, ink, ground, flash and inverse.
 fn spelled(cell: Cell) -> [u8; 7] {

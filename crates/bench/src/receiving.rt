@@ -11,11 +11,11 @@ use crate::texts::put;
 use crate::texts::put_bytes;
 use crate::texts::put_number;
 use crate::texts::sum;
-use reader::Verdict;
-use receiver::Judged;
-use receiver::Receiver;
-use receiver::Stepped;
-use turns::take_turn;
+use block_reader::Verdict;
+use line_receiver::Judged;
+use line_receiver::Receiver;
+use line_receiver::Stepped;
+use line_turns::take_turn;
 
 // A receiver, what it judged, and how many bytes it handed out.
 struct Heard {

@@ -6,7 +6,7 @@ use crate::texts::first;
 use crate::texts::put;
 use crate::texts::put_number;
 use crate::texts::sum;
-use page::Screen;
+use screen_page::Screen;
 
 // A portion of values. They are all taken; were they not, the page would show it.
 fn run(screen: Screen, values: &[u8], writing: bool) -> Screen {

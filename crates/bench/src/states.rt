@@ -4,12 +4,12 @@ use crate::texts::first;
 use crate::texts::put;
 use crate::texts::put_bytes;
 use crate::texts::put_number;
-use hearing::Unfinished;
+use line_receiver::Phase;
+use line_receiver::Receiver;
 use links::Links;
-use receiver::Phase;
-use receiver::Receiver;
-use wiring::Row;
-use wiring::Table;
+use links_hearing::Unfinished;
+use links_wiring::Row;
+use links_wiring::Table;
 
 pub(crate) fn put_receiver(receiver: Receiver) {
     let phase = receiver.phase;

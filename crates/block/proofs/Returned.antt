@@ -3,14 +3,14 @@ use mathlib.Core.Path.{_≡_, ap, _∙_, subst}
 use mathlib.Core.List.{List}
 use Prim.Native.Nat.{ℕ, _≤_}
 use lib.ListN.{length}
-use Rattle.validity.specs.Block.{Bytes}
-use Rattle.maker.specs.Making.{useful, blockOf, valuesOf}
-use Rattle.maker.proofs.Blocks.{made-valid, made-useful, valid-made}
-use Rattle.reader.specs.declared.Verdict.{Verdict}
-use Rattle.reader.specs.declared.Verdict.the-variants.{Clean}
-use Rattle.reader.specs.Judging.{verdict, leftBy, left, handedBy, handed}
-use Rattle.reader.specs.Claims.{Right}
-use Rattle.reader.proofs.Verdicts.{is-right, right-is}
+use Rattle.block_validity.specs.Block.{Bytes}
+use Rattle.block_maker.specs.Making.{useful, blockOf, valuesOf}
+use Rattle.block_maker.proofs.Blocks.{made-valid, made-useful, valid-made}
+use Rattle.block_reader.specs.declared.Verdict.{Verdict}
+use Rattle.block_reader.specs.declared.Verdict.the-variants.{Clean}
+use Rattle.block_reader.specs.Judging.{verdict, leftBy, left, handedBy, handed}
+use Rattle.block_reader.specs.Claims.{Right}
+use Rattle.block_reader.proofs.Verdicts.{is-right, right-is}
 
 pub made-clean : (vs : List ℕ) → length vs ≤ 15 → verdict (blockOf vs) ≡ Clean
 made-clean vs h = right-is (blockOf vs) Clean (made-valid vs h)

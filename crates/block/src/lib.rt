@@ -3,12 +3,12 @@
 // back the first fifteen bytes of the lent block itself. proofs/Returned ties the two ends together: what the maker
 // writes the reader hands back, and what is read clean the maker writes.
 ghost use mathlib.Core.Path.{_≡_};
-ghost use Rattle.reader.specs.Judging.{judged, handed, bitNamed};
-pub use maker::make;
-pub use maker::values;
-pub use parity::with_parity;
-use reader::Verdict;
-pub use reader::mend;
+ghost use Rattle.block_reader.specs.Judging.{judged, handed, bitNamed};
+pub use block_maker::make;
+pub use block_maker::values;
+pub use block_parity::with_parity;
+use block_reader::Verdict;
+pub use block_reader::mend;
 
 // A block judged, of any length: the first fifteen bytes of the lent block itself, or an empty part. `said` gets
 // the number, `bit` the bit mended or 255 for none.
@@ -18,7 +18,7 @@ pub fn judge<'a>(block: &'a mut [u8], said: &mut u8, bit: &mut u8) -> &'a mut [u
         × (now r ≡ handed (now (block .entry)))
         × (r .ptr ≡ block .entry .ptr) ⌝ }
 {
-    let v = reader::mend(block);
+    let v = block_reader::mend(block);
     match v {
         Verdict::Clean => {
             *said = 0;

@@ -5,14 +5,14 @@ use mathlib.Core.List.{List, [], _∷_, _++_}
 use Prim.Native.Nat.{ℕ}
 use native.Mathlib.Omega.{arith}
 use lib.ListN.{replicate}
-use Rattle.division.specs.Division.{lowBits, bits, reduce, divide}
-use Rattle.parity.specs.Parity.{ones, even, allEven}
-use Rattle.validity.specs.Block.{codeBits, remainder, valid, Valid}
-use Rattle.validity.specs.Changed.{flip, hits, differences, distance}
-use Rattle.reader.specs.declared.Verdict.the-variants.{Clean, Mended}
-use Rattle.reader.specs.Judging.{verdict}
-use Rattle.reader.proofs.Verdicts.{right-is}
-use Rattle.reader.proofs.Alike.{same-verdict}
+use Rattle.block_division.specs.Division.{lowBits, bits, reduce, divide}
+use Rattle.block_parity.specs.Parity.{ones, even, allEven}
+use Rattle.block_validity.specs.Block.{codeBits, remainder, valid, Valid}
+use Rattle.block_validity.specs.Changed.{flip, hits, differences, distance}
+use Rattle.block_reader.specs.declared.Verdict.the-variants.{Clean, Mended}
+use Rattle.block_reader.specs.Judging.{verdict}
+use Rattle.block_reader.proofs.Verdicts.{right-is}
+use Rattle.block_reader.proofs.Alike.{same-verdict}
 
 pub four-off :
     Valid (replicate 17 0) × Valid (3 ∷ replicate 10 0 ++ (68 ∷ replicate 5 0))

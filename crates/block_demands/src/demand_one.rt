@@ -8,12 +8,12 @@ ghost use Prim.Native.Nat.{ℕ, _≤_, _<_};
 ghost use lib.ListN.{length, getD};
 ghost use Rattle.numbers.specs.Numbers.{Conditions, numberOf, GivenExactly};
 ghost use Rattle.values.specs.Large.{Values, firstLarge};
-ghost use Rattle.maker.specs.declared.Made.{Made};
-ghost use Rattle.maker.specs.Making.{makeNumber, makeTold, makeLeft, told as toldMade};
-ghost use Rattle.reader.specs.declared.Verdict.{Verdict};
-ghost use Rattle.reader.specs.declared.Verdict.the-variants.{Mended};
-ghost use Rattle.reader.specs.Judging.{verdict, judged, left, handed, bitNamed, judgeConditions};
-ghost use Rattle.reader.specs.Judging.{told as toldVerdict};
+ghost use Rattle.block_maker.specs.declared.Made.{Made};
+ghost use Rattle.block_maker.specs.Making.{makeNumber, makeTold, makeLeft, told as toldMade};
+ghost use Rattle.block_reader.specs.declared.Verdict.{Verdict};
+ghost use Rattle.block_reader.specs.declared.Verdict.the-variants.{Mended};
+ghost use Rattle.block_reader.specs.Judging.{verdict, judged, left, handed, bitNamed, judgeConditions};
+ghost use Rattle.block_reader.specs.Judging.{told as toldVerdict};
 
 // A number is given exactly when its condition holds and none before it in the order 1, 5, 2, 4, 3 does. The
 // judge's number comes of the paper's conditions: the block has not seventeen bytes, or no valid block is within

@@ -6,11 +6,11 @@ ghost use mathlib.Core.List.{List, [], _∷_, _++_};
 ghost use mathlib.Core.Logic.{_↔_};
 ghost use Prim.Native.Nat.{ℕ, _%_, _≤_, _<_};
 ghost use lib.ListN.{length, take, replicate};
-ghost use Rattle.validity.specs.Block.{Valid, Bytes};
-ghost use Rattle.validity.specs.Changed.{flip, hits, Places, distance};
-ghost use Rattle.reader.specs.declared.Verdict.the-variants.{Clean, Mended, Repeat};
-ghost use Rattle.reader.specs.Judging.{verdict, judged, left, handed, mendable};
-ghost use Rattle.reader.specs.Claims.{NoneNear, OnlyNear};
+ghost use Rattle.block_validity.specs.Block.{Valid, Bytes};
+ghost use Rattle.block_validity.specs.Changed.{flip, hits, Places, distance};
+ghost use Rattle.block_reader.specs.declared.Verdict.the-variants.{Clean, Mended, Repeat};
+ghost use Rattle.block_reader.specs.Judging.{verdict, judged, left, handed, mendable};
+ghost use Rattle.block_reader.specs.Claims.{NoneNear, OnlyNear};
 
 // What is handed on is valid, within one mendable bit of what arrived, and the only such block; the caller gets back
 // its first fifteen bytes; a repeat is asked exactly when there is none.

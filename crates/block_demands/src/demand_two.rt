@@ -7,15 +7,15 @@ ghost use Prim.Native.Nat.{ℕ, _+_, _-_, _^_, _≤_, _<_};
 ghost use lib.Bits.{bitXor};
 ghost use lib.ListN.{length, getD, set, take, drop, replicate};
 ghost use Rattle.values.specs.Large.{Values};
-ghost use Rattle.division.specs.Division.{bits, checkBits};
-ghost use Rattle.division.specs.Polynomials.{polynomial, GeneratorDivides};
-ghost use Rattle.division.specs.Table.{mirrored, entering};
-ghost use Rattle.validity.specs.Block.{codeBits, remainder, Valid, Bytes};
-ghost use Rattle.validity.specs.Changed.{flip};
-ghost use Rattle.validity.specs.Units.{unit};
-ghost use Rattle.maker.specs.Making.{useful, blockOf, valuesOf, makeNumber, makeLeft};
-ghost use Rattle.reader.specs.declared.Verdict.the-variants.{Clean};
-ghost use Rattle.reader.specs.Judging.{verdict, handed, mendable};
+ghost use Rattle.block_division.specs.Division.{bits, checkBits};
+ghost use Rattle.block_division.specs.Polynomials.{polynomial, GeneratorDivides};
+ghost use Rattle.block_division.specs.Table.{mirrored, entering};
+ghost use Rattle.block_validity.specs.Block.{codeBits, remainder, Valid, Bytes};
+ghost use Rattle.block_validity.specs.Changed.{flip};
+ghost use Rattle.block_validity.specs.Units.{unit};
+ghost use Rattle.block_maker.specs.Making.{useful, blockOf, valuesOf, makeNumber, makeLeft};
+ghost use Rattle.block_reader.specs.declared.Verdict.the-variants.{Clean};
+ghost use Rattle.block_reader.specs.Judging.{verdict, handed, mendable};
 
 // The remainder is zero exactly when the generator x^7 + x^3 + 1 divides the code bits as a polynomial.
 pub fn nothing_is_left_exactly_when_the_generator_divides()

@@ -6,8 +6,8 @@ use Prim.Native.Nat.{ℕ, zero, suc, _+_, _*_, _/_, _<_}
 use native.Mathlib.Nat.{mod-lt, zero-lt-suc}
 use native.Mathlib.Omega.{arith}
 use lib.ListN.{length, getD, replicate, length-append}
-use Rattle.division.specs.Division.{lowBits, bits}
-use Rattle.division.specs.Polynomials.{Digits, none, more}
+use Rattle.block_division.specs.Division.{lowBits, bits}
+use Rattle.block_division.specs.Polynomials.{Digits, none, more}
 
 pub low-digits : (n a : ℕ) → Digits (lowBits n a)
 unfolding lowBits

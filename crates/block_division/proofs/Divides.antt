@@ -10,9 +10,9 @@ use lib.Pow.{pow-pos}
 use lib.Bits.{bitXor, xor-lt, xor-block, xor-shr, xor-comm, xor-zero-r}
 use Rattle.laws.proofs.Computed.{apart}
 use Rattle.laws.proofs.Xor.{xor-again, xor-zero-eq, xor-four, xor-scale}
-use Rattle.division.specs.Division.{generator, reduce, divide}
-use Rattle.division.specs.Polynomials.{polynomial, times, GeneratorDivides, Digits, none, more}
-use Rattle.division.proofs.Steps.{small, large, reduce-lt, divide-lt}
+use Rattle.block_division.specs.Division.{generator, reduce, divide}
+use Rattle.block_division.specs.Polynomials.{polynomial, times, GeneratorDivides, Digits, none, more}
+use Rattle.block_division.proofs.Steps.{small, large, reduce-lt, divide-lt}
 
 -- ---- multiples of the generator
 

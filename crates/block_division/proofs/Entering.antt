@@ -13,12 +13,12 @@ use lib.Seq.{take-suc}
 use lib.Bits.{bitXor, xor-lt, xor-zero-r, xor-comm}
 use Rattle.laws.proofs.Computed.{below, at, Equal, equal-at}
 use Rattle.laws.proofs.Sums.{sum-append}
-use Rattle.division.specs.Division.{lowBits, bits, reduce, divide, checkBits}
-use Rattle.division.specs.Polynomials.{polynomial}
-use Rattle.division.specs.Table.{mirrored, entering, Remainders}
-use Rattle.division.proofs.Bytes.{low-digits, append-digits, bits-digits, bits-append}
-use Rattle.division.proofs.Steps.{divide-append, divide-lt, zeros-behind, check-lt}
-use Rattle.division.proofs.Linear.{divide-sum, low-sum}
+use Rattle.block_division.specs.Division.{lowBits, bits, reduce, divide, checkBits}
+use Rattle.block_division.specs.Polynomials.{polynomial}
+use Rattle.block_division.specs.Table.{mirrored, entering, Remainders}
+use Rattle.block_division.proofs.Bytes.{low-digits, append-digits, bits-digits, bits-append}
+use Rattle.block_division.proofs.Steps.{divide-append, divide-lt, zeros-behind, check-lt}
+use Rattle.block_division.proofs.Linear.{divide-sum, low-sum}
 
 -- ---- the rule of a table: one test over all its entries, and the law that carries it to each
 

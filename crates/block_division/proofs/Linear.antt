@@ -9,10 +9,10 @@ use lib.Bits.{bitXor, xor-lt, xor-block, xor-comm, xor-zero-r, xor-mod}
 use Rattle.laws.proofs.Computed.{apart}
 use Rattle.laws.proofs.Xor.{xor-assoc, xor-four, xor-half}
 use Rattle.laws.proofs.Sums.{Sum, none, more, sum-append}
-use Rattle.division.specs.Division.{lowBits, bits, generator, reduce, divide}
-use Rattle.division.specs.Polynomials.{Digits}
-use Rattle.division.specs.Polynomials
-use Rattle.division.proofs.Steps.{small, large, both-up, reduce-lt}
+use Rattle.block_division.specs.Division.{lowBits, bits, generator, reduce, divide}
+use Rattle.block_division.specs.Polynomials.{Digits}
+use Rattle.block_division.specs.Polynomials
+use Rattle.block_division.proofs.Steps.{small, large, both-up, reduce-lt}
 
 -- ---- one step
 

@@ -11,9 +11,9 @@ use lib.ListN.{replicate}
 use lib.Bits.{bitXor, xor-lt, xor-block}
 use borrow.Author.Tests.{lt-ltb, le-ltb}
 use Rattle.laws.proofs.Computed.{apart}
-use Rattle.division.specs.Division.{lowBits, bits, generator, reduce, divide, checkBits}
-use Rattle.division.specs.Polynomials.{Digits, none, more}
-use Rattle.division.proofs.Bytes.{bits-digits, zero-digits, append-digits}
+use Rattle.block_division.specs.Division.{lowBits, bits, generator, reduce, divide, checkBits}
+use Rattle.block_division.specs.Polynomials.{Digits, none, more}
+use Rattle.block_division.proofs.Bytes.{bits-digits, zero-digits, append-digits}
 
 -- ---- one step
 

@@ -3,8 +3,8 @@ use Prim.Native.Nat.{ℕ, _<_}
 use mathlib.Core.Path.{_≡_}
 use mathlib.Core.List.{List, [], _∷_}
 use lib.ListN.{getD}
-use Rattle.division.specs.Division.{lowBits, checkBits}
-use Rattle.division.specs.Polynomials.{polynomial}
+use Rattle.block_division.specs.Division.{lowBits, checkBits}
+use Rattle.block_division.specs.Polynomials.{polynomial}
 
 -- seven bits the other way round: weight 1 becomes weight 64, weight 2 becomes 32, and so on
 unfoldable pub mirrored : ℕ → ℕ

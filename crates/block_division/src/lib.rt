@@ -6,8 +6,8 @@
 // this crate. It takes a byte in one step: the check bits so far are added to it, and a table has what that leaves
 // (specs/Table; why one entry is enough, proofs/Entering).
 ghost use mathlib.Core.Path.{_≡_};
-ghost use Rattle.division.specs.Division.{checkBits};
-ghost use Rattle.division.specs.Table.{mirrored};
+ghost use Rattle.block_division.specs.Division.{checkBits};
+ghost use Rattle.block_division.specs.Table.{mirrored};
 
 mod remainders;
 

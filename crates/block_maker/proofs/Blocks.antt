@@ -13,14 +13,14 @@ use lib.Bits.{bitXor, xor-self}
 use Rattle.laws.proofs.Computed.{and-left, and-right, both, is-true}
 use Rattle.laws.proofs.Xor.{xor-zero-eq}
 use Rattle.values.specs.Large.{Values}
-use Rattle.division.specs.Division.{lowBits, checkBits}
-use Rattle.division.proofs.Steps.{check-lt}
-use Rattle.parity.specs.Parity.{ones, even, allEven, withParity}
-use Rattle.parity.proofs.Parities.{parity-even, parity-off, parity-back}
-use Rattle.validity.specs.Block.{remainder, Valid, Bytes}
-use Rattle.validity.proofs.Powers.{remainder-by-check}
-use Rattle.validity.proofs.Validity.{valid-length, valid-even, valid-remainder, valid-last, is-valid}
-use Rattle.maker.specs.Making.{useful, sealed, blockOf, valuesOf}
+use Rattle.block_division.specs.Division.{lowBits, checkBits}
+use Rattle.block_division.proofs.Steps.{check-lt}
+use Rattle.block_parity.specs.Parity.{ones, even, allEven, withParity}
+use Rattle.block_parity.proofs.Parities.{parity-even, parity-off, parity-back}
+use Rattle.block_validity.specs.Block.{remainder, Valid, Bytes}
+use Rattle.block_validity.proofs.Powers.{remainder-by-check}
+use Rattle.block_validity.proofs.Validity.{valid-length, valid-even, valid-remainder, valid-last, is-valid}
+use Rattle.block_maker.specs.Making.{useful, sealed, blockOf, valuesOf}
 
 -- ---- even bytes
 

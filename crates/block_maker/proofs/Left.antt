@@ -10,10 +10,10 @@ use lib.Seq.{take-at, drop-at}
 use Rattle.laws.proofs.Computed.{apart}
 use Rattle.values.specs.Large.{Values, firstLarge}
 use Rattle.values.proofs.Found.{none-large, lowest}
-use Rattle.validity.proofs.Validity.{valid-length}
-use Rattle.maker.specs.Making.{blockOf, makeNumber, makeTold, makeLeft}
-use Rattle.maker.proofs.Numbered.{none, many, large, short, room, written, names-none, names-place}
-use Rattle.maker.proofs.Blocks.{made-valid}
+use Rattle.block_validity.proofs.Validity.{valid-length}
+use Rattle.block_maker.specs.Making.{blockOf, makeNumber, makeTold, makeLeft}
+use Rattle.block_maker.proofs.Numbered.{none, many, large, short, room, written, names-none, names-place}
+use Rattle.block_maker.proofs.Blocks.{made-valid}
 
 module _ (vs O : List ℕ) where
   -- ---- what is told

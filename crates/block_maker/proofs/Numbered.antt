@@ -9,9 +9,9 @@ use lib.ListN.{length, drop}
 use borrow.Author.Tests.{lt-ltb, le-ltb, eq-eqb, ne-eqb}
 use Rattle.numbers.specs.Numbers.{Told}
 use Rattle.values.specs.Large.{firstLarge}
-use Rattle.maker.specs.declared.Made.{Made}
-use Rattle.maker.specs.declared.Made.the-variants.{Taken, WrongLength, TooLarge, NoRoom}
-use Rattle.maker.specs.Making.{blockOf, told, makeNumber, makeTold, makeLeft}
+use Rattle.block_maker.specs.declared.Made.{Made}
+use Rattle.block_maker.specs.declared.Made.the-variants.{Taken, WrongLength, TooLarge, NoRoom}
+use Rattle.block_maker.specs.Making.{blockOf, told, makeNumber, makeTold, makeLeft}
 
 module _ (vs O : List ℕ) where
   -- ---- the number: taken first, then each refusal from the last to the first

@@ -5,10 +5,10 @@ use Prim.Native.Nat.{ℕ, zero, suc, _+_, _-_, _≤_, _<_}
 use native.Mathlib.Nat.{not-suc-le-zero, le-of-suc-le-suc}
 use lib.ListN.{length, getD, take, drop, set, replicate}
 use lib.Seq.{sets-eq, take-at, drop-at, drop-drop}
-use Rattle.division.specs.Division.{checkBits}
-use Rattle.parity.specs.Parity.{withParity}
-use Rattle.maker.specs.Making.{useful, sealed, blockOf}
-use Rattle.maker.proofs.Blocks.{useful-length}
+use Rattle.block_division.specs.Division.{checkBits}
+use Rattle.block_parity.specs.Parity.{withParity}
+use Rattle.block_maker.specs.Making.{useful, sealed, blockOf}
+use Rattle.block_maker.proofs.Blocks.{useful-length}
 
 -- ---- the useful bytes, one by one
 

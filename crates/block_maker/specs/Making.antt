@@ -7,10 +7,10 @@ use lib.Dec.{eqb, ltb}
 use lib.ListN.{length, take, drop, replicate}
 use Rattle.numbers.specs.Numbers.{Conditions, numberOf, Told}
 use Rattle.values.specs.Large.{firstLarge}
-use Rattle.division.specs.Division.{checkBits}
-use Rattle.parity.specs.Parity.{withParity}
-use Rattle.maker.specs.declared.Made.{Made}
-use Rattle.maker.specs.declared.Made.the-variants.{Taken, WrongLength, TooLarge, NoRoom}
+use Rattle.block_division.specs.Division.{checkBits}
+use Rattle.block_parity.specs.Parity.{withParity}
+use Rattle.block_maker.specs.declared.Made.{Made}
+use Rattle.block_maker.specs.declared.Made.the-variants.{Taken, WrongLength, TooLarge, NoRoom}
 
 -- "The maker takes 1 to 15 values .., fills up with NUL, and adds parity": the fifteen useful bytes
 unfoldable pub useful : List ℕ → List ℕ

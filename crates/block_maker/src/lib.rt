@@ -8,8 +8,8 @@ ghost use Prim.Native.Nat.{_≤_};
 ghost use mathlib.Core.Path.{_≡_};
 ghost use mathlib.Core.List.{_++_};
 ghost use lib.ListN.{length, getD, take, drop};
-ghost use Rattle.maker.specs.Making.{useful, sealed, told, makeTold, makeLeft};
-ghost use Rattle.maker.specs.Making.{valuesOf};
+ghost use Rattle.block_maker.specs.Making.{useful, sealed, told, makeTold, makeLeft};
+ghost use Rattle.block_maker.specs.Making.{valuesOf};
 
 pub enum Made {
     Taken,
@@ -24,7 +24,7 @@ fn useful_at(values: &[u8], i: usize) -> u8
     ensures { λ r. ⌜ r ≡ getD (useful (now (values .entry))) i 0 ⌝ }
 {
     if i < values.len() {
-        parity::with_parity(values[i])
+        block_parity::with_parity(values[i])
     } else {
         0
     }
@@ -47,8 +47,8 @@ fn seal(out: &mut [u8])
     requires { ⌜ 17 ≤ length (now out) ⌝ }
     ensures { λ _. ⌜ now (out .exit) ≡ sealed (take 15 (now (out .entry))) ++ drop 17 (now (out .entry)) ⌝ }
 {
-    let c = division::check_bits(&out[..15]);
-    out[15] = parity::with_parity(c);
+    let c = block_division::check_bits(&out[..15]);
+    out[15] = block_parity::with_parity(c);
     out[16] = 0;
 }
 

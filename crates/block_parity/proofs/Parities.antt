@@ -14,12 +14,12 @@ use lib.Bits.{bitXor}
 use Rattle.laws.proofs.Computed.{below, at, Equal, equal-at, and-left, and-right}
 use Rattle.laws.proofs.Xor.{digit-xor, digit-sum}
 use Rattle.laws.proofs.Sums.{Sum, none, more}
-use Rattle.division.specs.Division.{lowBits, bits}
-use Rattle.division.specs.Polynomials.{Digits}
-use Rattle.division.specs.Polynomials
-use Rattle.division.proofs.Bytes.{low-digits}
-use Rattle.division.proofs.Linear.{low-sum}
-use Rattle.parity.specs.Parity.{ones, even, allEven, odds, withParity}
+use Rattle.block_division.specs.Division.{lowBits, bits}
+use Rattle.block_division.specs.Polynomials.{Digits}
+use Rattle.block_division.specs.Polynomials
+use Rattle.block_division.proofs.Bytes.{low-digits}
+use Rattle.block_division.proofs.Linear.{low-sum}
+use Rattle.block_parity.specs.Parity.{ones, even, allEven, odds, withParity}
 
 -- ---- ones add up, but for pairs that cancel
 

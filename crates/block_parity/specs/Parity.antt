@@ -3,7 +3,7 @@ use Prim.Native.Nat.{ℕ, suc, _+_, _*_, _%_}
 use mathlib.Core.Bool.{Bool, true, cond, _&&_}
 use mathlib.Core.List.{List, [], _∷_}
 use lib.Dec.{eqb}
-use Rattle.division.specs.Division.{lowBits}
+use Rattle.block_division.specs.Division.{lowBits}
 
 -- how many ones there are in a row of bits
 unfoldable pub ones : List ℕ → ℕ

@@ -2,7 +2,7 @@
 // have, how many have not, and a value with parity. specs/Parity is the words; proofs/Parities has their laws: parity
 // adds up like the bits do, a value with parity is even, and without it is the value again.
 ghost use mathlib.Core.Path.{_≡_};
-ghost use Rattle.parity.specs.Parity.{even, allEven, odds, withParity};
+ghost use Rattle.block_parity.specs.Parity.{even, allEven, odds, withParity};
 
 // Whether a byte has an even number of ones: its halves are added until one bit is left, which is 0 then. There is no
 // loop over its bits, so that many bytes can be taken at once.

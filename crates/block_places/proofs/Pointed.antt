@@ -7,9 +7,9 @@ use Prim.Native.Nat.{ℕ, _<_}
 use lib.Dec.{T, eqb, ltb, eqb→eq, ltb→lt}
 use lib.ListN.{getD}
 use Rattle.laws.proofs.Computed.{at, below, and-left, and-right}
-use Rattle.division.specs.Division.{lowBits, bits, reduce, divide}
-use Rattle.validity.specs.Block.{codeBits, remainder}
-use Rattle.validity.specs.Units.{unit}
+use Rattle.block_division.specs.Division.{lowBits, bits, reduce, divide}
+use Rattle.block_validity.specs.Block.{codeBits, remainder}
+use Rattle.block_validity.specs.Units.{unit}
 
 abbrev pub places : List ℕ
 places =

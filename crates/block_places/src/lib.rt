@@ -2,8 +2,8 @@
 // is proved once, over the whole table (proofs/Pointed).
 ghost use Prim.Native.Nat.{_%_, _<_};
 ghost use mathlib.Core.Path.{_≡_};
-ghost use Rattle.validity.specs.Block.{remainder as remainderOf};
-ghost use Rattle.validity.specs.Units.{unit};
+ghost use Rattle.block_validity.specs.Block.{remainder as remainderOf};
+ghost use Rattle.block_validity.specs.Units.{unit};
 
 const PLACES: [u8; 128] = [
     127,

@@ -6,15 +6,15 @@ use Prim.Native.Nat.{ℕ}
 use lib.Dec.{T}
 use lib.ListN.{length, replicate}
 use Rattle.laws.proofs.Sums.{Sum, sum-one, sum-length, sum-nothing}
-use Rattle.validity.specs.Block.{valid, Valid}
-use Rattle.validity.specs.Changed.{flip, hits, Near, same, changed}
-use Rattle.validity.proofs.Validity.{valid-length}
-use Rattle.validity.proofs.Alike.{flip-alike, valid-alike, hits-sum}
-use Rattle.reader.specs.declared.Verdict.{Verdict}
-use Rattle.reader.specs.declared.Verdict.the-variants.{Clean, Mended, Repeat, WrongLength}
-use Rattle.reader.specs.Judging.{mendable, verdict, leftBy, left}
-use Rattle.reader.specs.Claims.{NoneNear, Right}
-use Rattle.reader.proofs.Verdicts.{is-right, right-is}
+use Rattle.block_validity.specs.Block.{valid, Valid}
+use Rattle.block_validity.specs.Changed.{flip, hits, Near, same, changed}
+use Rattle.block_validity.proofs.Validity.{valid-length}
+use Rattle.block_validity.proofs.Alike.{flip-alike, valid-alike, hits-sum}
+use Rattle.block_reader.specs.declared.Verdict.{Verdict}
+use Rattle.block_reader.specs.declared.Verdict.the-variants.{Clean, Mended, Repeat, WrongLength}
+use Rattle.block_reader.specs.Judging.{mendable, verdict, leftBy, left}
+use Rattle.block_reader.specs.Claims.{NoneNear, Right}
+use Rattle.block_reader.proofs.Verdicts.{is-right, right-is}
 
 -- what is added to a valid block, and the sum
 module _ {W B C : List ℕ} (v : Valid W) (s : Sum W B C) where

@@ -7,15 +7,15 @@ use native.Mathlib.Omega.{arith}
 use lib.Dec.{eqb}
 use lib.ListN.{length, take}
 use Rattle.numbers.specs.Numbers.{Told}
-use Rattle.validity.specs.Block.{Valid}
-use Rattle.validity.specs.Changed.{flip}
-use Rattle.validity.proofs.Validity.{valid-length}
-use Rattle.validity.proofs.Alone.{flipped-length}
-use Rattle.reader.specs.declared.Verdict.{Verdict}
-use Rattle.reader.specs.declared.Verdict.the-variants.{Clean, Mended, Repeat, WrongLength}
-use Rattle.reader.specs.Judging.{mendable, verdict, told, judged, leftBy, left, handedBy, handed, bitNamed}
-use Rattle.reader.specs.Claims.{Right}
-use Rattle.reader.proofs.Verdicts.{is-right, once-whole}
+use Rattle.block_validity.specs.Block.{Valid}
+use Rattle.block_validity.specs.Changed.{flip}
+use Rattle.block_validity.proofs.Validity.{valid-length}
+use Rattle.block_validity.proofs.Alone.{flipped-length}
+use Rattle.block_reader.specs.declared.Verdict.{Verdict}
+use Rattle.block_reader.specs.declared.Verdict.the-variants.{Clean, Mended, Repeat, WrongLength}
+use Rattle.block_reader.specs.Judging.{mendable, verdict, told, judged, leftBy, left, handedBy, handed, bitNamed}
+use Rattle.block_reader.specs.Claims.{Right}
+use Rattle.block_reader.proofs.Verdicts.{is-right, once-whole}
 
 -- ---- two verdicts that tell the same are the same: only one answer fits the promise
 

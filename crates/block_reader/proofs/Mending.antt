@@ -8,18 +8,18 @@ use lib.Dec.{T, eqb}
 use lib.ListN.{length, getD, take}
 use borrow.Author.Tests.{eqb-true}
 use Rattle.laws.proofs.Computed.{and-left, and-right, is-true, fails, holds}
-use Rattle.parity.specs.Parity.{even, allEven, odds}
-use Rattle.validity.specs.Block.{codeBits, remainder, Valid}
-use Rattle.validity.specs.Changed.{Near, same, changed}
-use Rattle.validity.specs.Units.{unit}
-use Rattle.validity.proofs.Powers.{code-length}
-use Rattle.validity.proofs.Marks.{remainder-inj}
-use Rattle.validity.proofs.Validity.{valid-even, valid-remainder, valid-last, is-valid}
-use Rattle.validity.proofs.Odd.{Mends, mends-only, mends-where}
-use Rattle.reader.specs.declared.Verdict.the-variants.{Clean, Mended, Repeat}
-use Rattle.reader.specs.Judging.{mendable}
-use Rattle.reader.specs.Claims.{Right}
-use Rattle.reader.specs.Quick.{theOddOne}
+use Rattle.block_parity.specs.Parity.{even, allEven, odds}
+use Rattle.block_validity.specs.Block.{codeBits, remainder, Valid}
+use Rattle.block_validity.specs.Changed.{Near, same, changed}
+use Rattle.block_validity.specs.Units.{unit}
+use Rattle.block_validity.proofs.Powers.{code-length}
+use Rattle.block_validity.proofs.Marks.{remainder-inj}
+use Rattle.block_validity.proofs.Validity.{valid-even, valid-remainder, valid-last, is-valid}
+use Rattle.block_validity.proofs.Odd.{Mends, mends-only, mends-where}
+use Rattle.block_reader.specs.declared.Verdict.the-variants.{Clean, Mended, Repeat}
+use Rattle.block_reader.specs.Judging.{mendable}
+use Rattle.block_reader.specs.Claims.{Right}
+use Rattle.block_reader.specs.Quick.{theOddOne}
 
 -- ---- the byte that alone is odd
 

@@ -13,16 +13,16 @@ use lib.ListN.{length}
 use borrow.Author.Tests.{eqb-true, eqb-false, eq-eqb, ne-eqb}
 use Rattle.laws.proofs.Computed.{holds, fails, is-true}
 use Rattle.numbers.specs.Numbers.{numberOf}
-use Rattle.validity.specs.Block.{valid, Valid}
-use Rattle.validity.specs.Changed.{flip, hits, Places, Near, same, changed}
-use Rattle.validity.proofs.Flips.{flip-length, flip-flip}
-use Rattle.validity.proofs.Validity.{valid-length}
-use Rattle.validity.proofs.Alone.{flipped-length, hit-once, hit-twice, hit-thrice, hit-odd, one-place}
-use Rattle.reader.specs.declared.Verdict.{Verdict}
-use Rattle.reader.specs.declared.Verdict.the-variants.{Clean, Mended, Repeat, WrongLength}
-use Rattle.reader.specs.Judging.{mendable, tryFrom, verdict, told, judged, leftBy, left}
-use Rattle.reader.specs.Judging.{oneMends, judgeConditions}
-use Rattle.reader.specs.Claims.{NoneNear, Right, OnlyNear}
+use Rattle.block_validity.specs.Block.{valid, Valid}
+use Rattle.block_validity.specs.Changed.{flip, hits, Places, Near, same, changed}
+use Rattle.block_validity.proofs.Flips.{flip-length, flip-flip}
+use Rattle.block_validity.proofs.Validity.{valid-length}
+use Rattle.block_validity.proofs.Alone.{flipped-length, hit-once, hit-twice, hit-thrice, hit-odd, one-place}
+use Rattle.block_reader.specs.declared.Verdict.{Verdict}
+use Rattle.block_reader.specs.declared.Verdict.the-variants.{Clean, Mended, Repeat, WrongLength}
+use Rattle.block_reader.specs.Judging.{mendable, tryFrom, verdict, told, judged, leftBy, left}
+use Rattle.block_reader.specs.Judging.{oneMends, judgeConditions}
+use Rattle.block_reader.specs.Claims.{NoneNear, Right, OnlyNear}
 
 -- ---- the search finds the first bit that mends, if there is one
 

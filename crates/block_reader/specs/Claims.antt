@@ -3,11 +3,11 @@ use Prim.Native.Nat.{ℕ, _<_}
 use mathlib.Core.Path.{_≡_}
 use mathlib.Core.List.{List}
 use lib.ListN.{length}
-use Rattle.validity.specs.Block.{Valid}
-use Rattle.validity.specs.Changed.{flip, Near}
-use Rattle.reader.specs.declared.Verdict.{Verdict}
-use Rattle.reader.specs.declared.Verdict.the-variants.{Clean, Mended, Repeat, WrongLength}
-use Rattle.reader.specs.Judging.{mendable}
+use Rattle.block_validity.specs.Block.{Valid}
+use Rattle.block_validity.specs.Changed.{flip, Near}
+use Rattle.block_reader.specs.declared.Verdict.{Verdict}
+use Rattle.block_reader.specs.declared.Verdict.the-variants.{Clean, Mended, Repeat, WrongLength}
+use Rattle.block_reader.specs.Judging.{mendable}
 
 -- no valid block is near: B itself is not, nor is B with any one mendable bit changed
 abbrev pub NoneNear : List ℕ → Type 0

@@ -6,10 +6,10 @@ use mathlib.Core.List.{List, [], _∷_}
 use lib.Dec.{eqb}
 use lib.ListN.{length, take}
 use Rattle.numbers.specs.Numbers.{Conditions, Told}
-use Rattle.validity.specs.Block.{valid}
-use Rattle.validity.specs.Changed.{flip}
-use Rattle.reader.specs.declared.Verdict.{Verdict}
-use Rattle.reader.specs.declared.Verdict.the-variants.{Clean, Mended, Repeat, WrongLength}
+use Rattle.block_validity.specs.Block.{valid}
+use Rattle.block_validity.specs.Changed.{flip}
+use Rattle.block_reader.specs.declared.Verdict.{Verdict}
+use Rattle.block_reader.specs.declared.Verdict.the-variants.{Clean, Mended, Repeat, WrongLength}
 
 -- how many bits, from the first in block order on, may be mended: "one of the 127 code bits"
 abbrev pub mendable : ℕ

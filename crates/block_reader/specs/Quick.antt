@@ -3,7 +3,7 @@
 use mathlib.Core.Bool.{Bool, _&&_, not}
 use Prim.Native.Nat.{ℕ}
 use lib.Dec.{eqb}
-use Rattle.parity.specs.Parity.{even}
+use Rattle.block_parity.specs.Parity.{even}
 
 -- of the bytes n are odd, and byte b is the one
 abbrev pub theOddOne : ℕ → ℕ → Bool

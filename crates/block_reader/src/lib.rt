@@ -6,8 +6,8 @@
 // one byte of odd parity. proofs/Verdicts is the one door by which any judge is shown to be right, and has demand
 // 3; proofs/Alike shows that hits are judged alike in every valid block.
 ghost use mathlib.Core.Path.{_≡_};
-ghost use Rattle.reader.specs.Judging.{judged, left, told};
-ghost use Rattle.reader.specs.Quick.{theOddOne};
+ghost use Rattle.block_reader.specs.Judging.{judged, left, told};
+ghost use Rattle.block_reader.specs.Quick.{theOddOne};
 
 pub enum Verdict {
     Clean,
@@ -24,7 +24,7 @@ fn is_the_odd_one(odd: usize, byte: u8) -> bool
     if odd != 1 {
         return false;
     }
-    !parity::is_even(byte)
+    !block_parity::is_even(byte)
 }
 
 // A block judged in place, of any length: the verdict, and the block as it is left. One changed bit turns the
@@ -40,20 +40,20 @@ pub fn mend(block: &mut [u8]) -> Verdict
     if block[16] != 0 {
         return Verdict::Repeat;
     }
-    let r = validity::remainder(block);
-    let even = parity::are_even(&block[..16]);
+    let r = block_validity::remainder(block);
+    let even = block_parity::are_even(&block[..16]);
     if even && r == 0 {
         return Verdict::Clean;
     }
-    let k = places::place(r);
+    let k = block_places::place(r);
     if 127 <= k {
         return Verdict::Repeat;
     }
-    let odd = parity::odd_bytes(&block[..16]);
+    let odd = block_parity::odd_bytes(&block[..16]);
     let at = (k / 8) as usize;
     if !is_the_odd_one(odd, block[at]) {
         return Verdict::Repeat;
     }
-    validity::flip(block, k as usize);
+    block_validity::flip(block, k as usize);
     Verdict::Mended(k)
 }

@@ -8,11 +8,11 @@ use lib.Dec.{eqb}
 use lib.ListN.{length, getD, replicate}
 use lib.Bits.{bitXor}
 use Rattle.laws.proofs.Sums.{Sum, sum-length, sum-take, sum-at, sum-zeros, sum-add}
-use Rattle.parity.proofs.Parities.{all-even-sum}
-use Rattle.validity.specs.Block.{remainder, valid, Valid}
-use Rattle.validity.specs.Changed.{flip, hits}
-use Rattle.validity.proofs.Powers.{remainder-sum}
-use Rattle.validity.proofs.Validity.{valid-even, valid-remainder, valid-last}
+use Rattle.block_parity.proofs.Parities.{all-even-sum}
+use Rattle.block_validity.specs.Block.{remainder, valid, Valid}
+use Rattle.block_validity.specs.Changed.{flip, hits}
+use Rattle.block_validity.proofs.Powers.{remainder-sum}
+use Rattle.block_validity.proofs.Validity.{valid-even, valid-remainder, valid-last}
 
 module _ {W B C : List ℕ} (s : Sum W B C) where
   -- a bit changed in both

@@ -9,17 +9,17 @@ use lib.ListN.{length, getD, take}
 use lib.Seq.{take-suc, take-all}
 use lib.Bits.{bitXor}
 use Rattle.laws.proofs.Xor.{xor-zero-eq}
-use Rattle.division.specs.Division.{lowBits, bits}
-use Rattle.division.proofs.Bytes.{bits-append, bits-digits}
-use Rattle.division.proofs.Linear.{bits-sum}
-use Rattle.parity.specs.Parity.{ones}
-use Rattle.parity.proofs.Parities.{ones-sum, ones-append, even-ones}
-use Rattle.validity.specs.Block.{Valid}
-use Rattle.validity.specs.Changed.{flip, hits, Places}
-use Rattle.validity.specs.Units.{unit}
-use Rattle.validity.proofs.Flips.{flip-sum, flip-length}
-use Rattle.validity.proofs.Marks.{mark, mark-sum, mark-inj, unit-odd}
-use Rattle.validity.proofs.Validity.{valid-length, valid-even, valid-remainder, valid-last}
+use Rattle.block_division.specs.Division.{lowBits, bits}
+use Rattle.block_division.proofs.Bytes.{bits-append, bits-digits}
+use Rattle.block_division.proofs.Linear.{bits-sum}
+use Rattle.block_parity.specs.Parity.{ones}
+use Rattle.block_parity.proofs.Parities.{ones-sum, ones-append, even-ones}
+use Rattle.block_validity.specs.Block.{Valid}
+use Rattle.block_validity.specs.Changed.{flip, hits, Places}
+use Rattle.block_validity.specs.Units.{unit}
+use Rattle.block_validity.proofs.Flips.{flip-sum, flip-length}
+use Rattle.block_validity.proofs.Marks.{mark, mark-sum, mark-inj, unit-odd}
+use Rattle.block_validity.proofs.Validity.{valid-length, valid-even, valid-remainder, valid-last}
 
 -- ---- a valid block's mark is zero, and so is the parity of all its bits
 

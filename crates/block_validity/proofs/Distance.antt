@@ -10,14 +10,14 @@ use lib.ListN.{length, getD, set, take, drop}
 use lib.Seq.{take-at, drop-at}
 use borrow.Author.Tests.{eqb-true, eqb-false, eq-eqb}
 use Rattle.laws.proofs.Computed.{at, below}
-use Rattle.division.specs.Division.{lowBits, bits}
-use Rattle.division.specs.Polynomials.{Digits, none, more}
-use Rattle.division.proofs.Bytes.{bits-digits, eight, bits-length}
-use Rattle.validity.specs.Block.{Valid, Bytes}
-use Rattle.validity.specs.Changed.{flip, differences, distance}
-use Rattle.validity.proofs.Flips.{flip-length, flip-flip, flip-bytes, flip-bits}
-use Rattle.validity.proofs.Validity.{valid-length}
-use Rattle.validity.proofs.Alone.{hit-once, hit-twice, hit-thrice}
+use Rattle.block_division.specs.Division.{lowBits, bits}
+use Rattle.block_division.specs.Polynomials.{Digits, none, more}
+use Rattle.block_division.proofs.Bytes.{bits-digits, eight, bits-length}
+use Rattle.block_validity.specs.Block.{Valid, Bytes}
+use Rattle.block_validity.specs.Changed.{flip, differences, distance}
+use Rattle.block_validity.proofs.Flips.{flip-length, flip-flip, flip-bytes, flip-bits}
+use Rattle.block_validity.proofs.Validity.{valid-length}
+use Rattle.block_validity.proofs.Alone.{hit-once, hit-twice, hit-thrice}
 
 -- ---- rows of bits
 

@@ -14,12 +14,12 @@ use borrow.Author.Tests.{eqb-true, eqb-false}
 use Rattle.laws.proofs.Computed.{below, at, and-left, and-right}
 use Rattle.laws.proofs.Xor.{xor-again, other-digit}
 use Rattle.laws.proofs.Sums.{Sum, sum-one, sum-set}
-use Rattle.division.specs.Division.{lowBits, bits}
-use Rattle.division.proofs.Bytes.{bits-digits, digit-at, bits-length}
-use Rattle.division.proofs.Linear.{bits-sum}
-use Rattle.validity.specs.Block.{Bytes}
-use Rattle.validity.specs.Changed.{flip}
-use Rattle.validity.specs.Units.{unit}
+use Rattle.block_division.specs.Division.{lowBits, bits}
+use Rattle.block_division.proofs.Bytes.{bits-digits, digit-at, bits-length}
+use Rattle.block_division.proofs.Linear.{bits-sum}
+use Rattle.block_validity.specs.Block.{Bytes}
+use Rattle.block_validity.specs.Changed.{flip}
+use Rattle.block_validity.specs.Units.{unit}
 
 pub flip-length : (k : ℕ) (B : List ℕ) → length (flip k B) ≡ length B
 unfolding flip

@@ -11,11 +11,11 @@ use lib.Seq.{getD-set-other}
 use lib.Bits.{bitXor, xor-block}
 use Rattle.laws.proofs.Computed.{below, at}
 use Rattle.laws.proofs.Sums.{Sum, sum-at}
-use Rattle.division.specs.Division.{lowBits, bits, reduce, divide}
-use Rattle.parity.specs.Parity.{ones}
-use Rattle.validity.specs.Block.{codeBits, remainder}
-use Rattle.validity.specs.Units.{unit}
-use Rattle.validity.proofs.Powers.{remainder-sum, remainder-lt}
+use Rattle.block_division.specs.Division.{lowBits, bits, reduce, divide}
+use Rattle.block_parity.specs.Parity.{ones}
+use Rattle.block_validity.specs.Block.{codeBits, remainder}
+use Rattle.block_validity.specs.Units.{unit}
+use Rattle.block_validity.proofs.Powers.{remainder-sum, remainder-lt}
 
 -- the mark of a block: its last byte and its remainder in one number. Of a valid block it is zero
 unfoldable pub mark : List ℕ → ℕ

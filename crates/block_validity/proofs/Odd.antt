@@ -13,17 +13,17 @@ use lib.Bits.{bitXor, xor-self}
 use borrow.Author.Tests.{eqb-true, eqb-false}
 use Rattle.laws.proofs.Computed.{at, below}
 use Rattle.laws.proofs.Xor.{xor-zero-eq}
-use Rattle.division.specs.Division.{lowBits}
-use Rattle.division.proofs.Bytes.{low-digits}
-use Rattle.division.proofs.Linear.{low-sum}
-use Rattle.parity.specs.Parity.{ones, even, allEven, odds}
-use Rattle.parity.proofs.Parities.{ones-sum}
-use Rattle.validity.specs.Block.{remainder, Valid}
-use Rattle.validity.specs.Changed.{flip}
-use Rattle.validity.specs.Units.{unit}
-use Rattle.validity.proofs.Powers.{remainder-sum}
-use Rattle.validity.proofs.Flips.{flip-sum, flip-length}
-use Rattle.validity.proofs.Validity.{valid-even, valid-remainder, valid-last, is-valid}
+use Rattle.block_division.specs.Division.{lowBits}
+use Rattle.block_division.proofs.Bytes.{low-digits}
+use Rattle.block_division.proofs.Linear.{low-sum}
+use Rattle.block_parity.specs.Parity.{ones, even, allEven, odds}
+use Rattle.block_parity.proofs.Parities.{ones-sum}
+use Rattle.block_validity.specs.Block.{remainder, Valid}
+use Rattle.block_validity.specs.Changed.{flip}
+use Rattle.block_validity.specs.Units.{unit}
+use Rattle.block_validity.proofs.Powers.{remainder-sum}
+use Rattle.block_validity.proofs.Flips.{flip-sum, flip-length}
+use Rattle.block_validity.proofs.Validity.{valid-even, valid-remainder, valid-last, is-valid}
 
 -- ---- one byte
 

@@ -14,15 +14,15 @@ use lib.Bits.{bitXor, xor-zero-r}
 use borrow.Author.Tests.{lt-ltb, le-ltb}
 use Rattle.laws.proofs.Computed.{below, at}
 use Rattle.laws.proofs.Sums.{Sum, sum-take, sum-at, sum-append}
-use Rattle.division.specs.Division.{lowBits, bits, reduce, divide, checkBits}
-use Rattle.division.specs.Polynomials.{polynomial, GeneratorDivides, Digits}
-use Rattle.division.proofs.Bytes.{low-digits, append-digits, reverse-digits, bits-digits, bits-length}
-use Rattle.division.proofs.Steps.{divide-append, divide-lt, zeros-behind}
-use Rattle.division.proofs.Linear.{divide-sum, low-sum, bits-sum, sum-reverse}
-use Rattle.division.proofs.Divides.{nothing-left}
-use Rattle.parity.proofs.Parities.{seven}
-use Rattle.validity.specs.Block.{codeBits, remainder}
-use Rattle.validity.specs.Units.{unit}
+use Rattle.block_division.specs.Division.{lowBits, bits, reduce, divide, checkBits}
+use Rattle.block_division.specs.Polynomials.{polynomial, GeneratorDivides, Digits}
+use Rattle.block_division.proofs.Bytes.{low-digits, append-digits, reverse-digits, bits-digits, bits-length}
+use Rattle.block_division.proofs.Steps.{divide-append, divide-lt, zeros-behind}
+use Rattle.block_division.proofs.Linear.{divide-sum, low-sum, bits-sum, sum-reverse}
+use Rattle.block_division.proofs.Divides.{nothing-left}
+use Rattle.block_parity.proofs.Parities.{seven}
+use Rattle.block_validity.specs.Block.{codeBits, remainder}
+use Rattle.block_validity.specs.Units.{unit}
 
 -- ---- which power each bit stands for: place k alone spells x^(126 - k), and in byte 16 weight 2^i spells x^i
 

@@ -7,9 +7,9 @@ use lib.Dec.{T, eqb, eqb→eq}
 use lib.ListN.{length, getD, take, replicate}
 use borrow.Author.Tests.{eq-eqb}
 use Rattle.laws.proofs.Computed.{and-left, and-right, both, holds}
-use Rattle.division.specs.Division.{lowBits, bits, reduce, divide}
-use Rattle.parity.specs.Parity.{ones, even, allEven}
-use Rattle.validity.specs.Block.{codeBits, remainder, valid, Valid}
+use Rattle.block_division.specs.Division.{lowBits, bits, reduce, divide}
+use Rattle.block_parity.specs.Parity.{ones, even, allEven}
+use Rattle.block_validity.specs.Block.{codeBits, remainder, valid, Valid}
 
 -- ---- worked blocks: W1 of 01 is valid; W5 (byte 16), W6 (byte 17), W7 (the remainder), and W1 with a byte more or
 -- less are not, each for that one reason

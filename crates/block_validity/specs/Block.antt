@@ -5,8 +5,8 @@ use mathlib.Core.Bool.{Bool, _&&_}
 use mathlib.Core.List.{List, _++_, reverse}
 use lib.Dec.{T, eqb}
 use lib.ListN.{length, getD, take}
-use Rattle.division.specs.Division.{lowBits, bits, divide}
-use Rattle.parity.specs.Parity.{allEven}
+use Rattle.block_division.specs.Division.{lowBits, bits, divide}
+use Rattle.block_parity.specs.Parity.{allEven}
 
 -- "all 120 bits of bytes 1 to 15 and the seven low bits of byte 16, 127 together": the coefficients of powers 126
 -- down to 0. In byte 16 weight 64 comes first: "aux bits 0 à 6 les coefficients de rang 0 à 6" (001, section

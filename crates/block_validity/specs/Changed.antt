@@ -6,7 +6,7 @@ use mathlib.Core.List.{List, [], _∷_}
 use lib.Dec.{eqb}
 use lib.ListN.{getD, set}
 use lib.Bits.{bitXor}
-use Rattle.division.specs.Division.{bits}
+use Rattle.block_division.specs.Division.{bits}
 
 -- a byte with the bit of weight w changed
 abbrev pub turned : ℕ → ℕ → ℕ

@@ -7,8 +7,8 @@
 // (Odd). The functions are the leaves that the maker and the reader of blocks (crate block) are built of. Each takes
 // any bytes.
 ghost use mathlib.Core.Path.{_≡_};
-ghost use Rattle.validity.specs.Block.{remainder as remainderOf};
-ghost use Rattle.validity.specs.Changed.{flip as flipped};
+ghost use Rattle.block_validity.specs.Block.{remainder as remainderOf};
+ghost use Rattle.block_validity.specs.Changed.{flip as flipped};
 
 const WEIGHTS: [u8; 8] = [1, 2, 4, 8, 16, 32, 64, 128];
 
@@ -28,8 +28,8 @@ pub fn remainder(block: &[u8]) -> u8
     ensures { λ r. ⌜ r ≡ remainderOf (now (block .entry)) ⌝ }
 {
     if block.len() < 16 {
-        return division::check_bits(block);
+        return block_division::check_bits(block);
     }
     let c = block[15];
-    division::check_bits(&block[..15]) ^ c % 128
+    block_division::check_bits(&block[..15]) ^ c % 128
 }

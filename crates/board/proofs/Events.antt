@@ -4,20 +4,20 @@ use mathlib.Core.Path.{_≡_, refl, sym, ap, _∙_}
 use mathlib.Core.Bool.{cond}
 use mathlib.Core.List.{List, [], _∷_, _++_, append-nil}
 use Prim.Native.Nat.{ℕ, _<_}
-use Rattle.wiring.specs.declared.Module.{Module}
-use Rattle.wiring.specs.declared.Module.the-variants.{Screen, Keyboard, Socket}
-use Rattle.wiring.specs.Tables.{reaches}
-use Rattle.replies.specs.Replies.{statusesOf}
-use Rattle.hearing.specs.declared.Unfinished.the-variants.{Free}
-use Rattle.receiver.specs.Runs.{Event as Heard, obey as receiverObey, sentBy}
-use Rattle.ears.specs.declared.Ear.the-variants.{Socket as socketEar}
+use Rattle.links_wiring.specs.declared.Module.{Module}
+use Rattle.links_wiring.specs.declared.Module.the-variants.{Screen, Keyboard, Socket}
+use Rattle.links_wiring.specs.Tables.{reaches}
+use Rattle.links_replies.specs.Replies.{statusesOf}
+use Rattle.links_hearing.specs.declared.Unfinished.the-variants.{Free}
+use Rattle.line_receiver.specs.Runs.{Event as Heard, obey as receiverObey, sentBy}
+use Rattle.links_ears.specs.declared.Ear.the-variants.{Socket as socketEar}
 use Rattle.links.specs.declared.Links.{Links}
 use Rattle.links.specs.declared.Outcome.{Outcome as LinksOutcome}
 use Rattle.links.specs.States.{unfinished}
 use Rattle.links.specs.Runs.{Call, key as keyCall, value, given, PassedOn}
 use Rattle.links.proofs.Flow.{plain-goes, key-goes}
 use Rattle.links.proofs.Choosing.{begins-local, begins-connected, local-chosen, connected-chosen}
-use Rattle.feeding.specs.Feeding.{got}
+use Rattle.board_feeding.specs.Feeding.{got}
 use Rattle.screen.specs.Calls.{ran}
 use Rattle.board.specs.declared.Board.{Board}
 use Rattle.board.specs.Runs.{Event, front, key, socket, toLocal, toConnected, obey, outTo, request, handedTo}

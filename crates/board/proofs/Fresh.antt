@@ -3,13 +3,13 @@ use mathlib.Core.Path.{_≡_, refl}
 use mathlib.Core.Bool.{false}
 use mathlib.Core.List.{List, [], _∷_}
 use lib.ListN.{replicate}
-use Rattle.phases.specs.declared.Phase.the-variants.{Off}
-use Rattle.replies.specs.Replies.{statusOf, statusesOf}
-use Rattle.hearing.specs.declared.Unfinished.the-variants.{Free}
-use Rattle.ears.specs.declared.Ear.{Ear}
-use Rattle.ears.specs.declared.Ear.the-variants.{Modem as modem, Socket as socket}
+use Rattle.line_phases.specs.declared.Phase.the-variants.{Off}
+use Rattle.links_replies.specs.Replies.{statusOf, statusesOf}
+use Rattle.links_hearing.specs.declared.Unfinished.the-variants.{Free}
+use Rattle.links_ears.specs.declared.Ear.{Ear}
+use Rattle.links_ears.specs.declared.Ear.the-variants.{Modem as modem, Socket as socket}
 use Rattle.links.specs.States.{unfinished}
-use Rattle.page.specs.Pages.{freshScreen}
+use Rattle.screen_page.specs.Pages.{freshScreen}
 use Rattle.board.specs.Boards.{freshBoard}
 
 pub fresh-receiver : (freshBoard .receiver .phase ≡ Off) × (freshBoard .receiver .number ≡ 0)

@@ -6,15 +6,15 @@ use Prim.Native.Nat.{ℕ, _<_}
 use native.Mathlib.Omega.{arith}
 use Rattle.values.specs.Large.{Values}
 use Rattle.values.proofs.Found.{values-none, values-cons, values-head, values-tail}
-use Rattle.wiring.specs.declared.Module.{Module}
-use Rattle.wiring.specs.declared.Module.the-variants.{Modem}
-use Rattle.wiring.specs.declared.Table.{Table}
-use Rattle.wiring.specs.Tables.{reaches}
-use Rattle.commands.specs.Commands.{pro1}
-use Rattle.hearing.specs.declared.Unfinished.{Unfinished}
-use Rattle.hearing.specs.declared.Unfinished.the-variants.{Free}
-use Rattle.hearing.specs.Phrases.{Phrase, alone, escape, command, AllProper, allValues}
-use Rattle.ears.specs.declared.Ear.the-variants.{Modem as modem}
+use Rattle.links_wiring.specs.declared.Module.{Module}
+use Rattle.links_wiring.specs.declared.Module.the-variants.{Modem}
+use Rattle.links_wiring.specs.declared.Table.{Table}
+use Rattle.links_wiring.specs.Tables.{reaches}
+use Rattle.links_commands.specs.Commands.{pro1}
+use Rattle.links_hearing.specs.declared.Unfinished.{Unfinished}
+use Rattle.links_hearing.specs.declared.Unfinished.the-variants.{Free}
+use Rattle.links_hearing.specs.Phrases.{Phrase, alone, escape, command, AllProper, allValues}
+use Rattle.links_ears.specs.declared.Ear.the-variants.{Modem as modem}
 use Rattle.links.specs.declared.Links.{Links}
 use Rattle.links.specs.States.{unfinished}
 use Rattle.links.specs.Runs.{value, obey, Throughout, InRange, Says, freed}
@@ -22,7 +22,7 @@ use Rattle.links.proofs.Ranges.{kept}
 use Rattle.links.proofs.Own.{can-say}
 use Rattle.links.proofs.Flow.{plain-goes, pair-passes}
 use Rattle.links.proofs.Replying.{codes-wait}
-use Rattle.feeding.specs.Feeding.{fromLine}
+use Rattle.board_feeding.specs.Feeding.{fromLine}
 use Rattle.board.specs.Pages.{NoCommand}
 
 pub stays-linked : (to : Module) (ps : List Phrase) (l : Links) → InRange l → unfinished l modem ≡ Free

@@ -2,24 +2,24 @@
 use mathlib.Core.Path.{_≡_, refl, sym, ap, ap₂, _∙_, subst, subst⁻¹}
 use mathlib.Core.List.{List, [], _∷_, _++_, append-nil}
 use Prim.Native.Nat.{ℕ}
-use Rattle.receiver.specs.declared.Receiver.{Receiver}
-use Rattle.receiver.specs.Runs.{Event as Heard, byte, on, off, ask, obey as receiverObey, sentBy}
-use Rattle.receiver.specs.Runs.{run as receiverRun, sent, allAsked}
-use Rattle.receiver.proofs.Kept.{keeps, run-append as heard-append, sent-append, asked-append}
-use Rattle.wiring.specs.declared.Module.{Module}
-use Rattle.wiring.specs.declared.Module.the-variants.{Screen, Keyboard, Modem, Socket}
+use Rattle.line_receiver.specs.declared.Receiver.{Receiver}
+use Rattle.line_receiver.specs.Runs.{Event as Heard, byte, on, off, ask, obey as receiverObey, sentBy}
+use Rattle.line_receiver.specs.Runs.{run as receiverRun, sent, allAsked}
+use Rattle.line_receiver.proofs.Kept.{keeps, run-append as heard-append, sent-append, asked-append}
+use Rattle.links_wiring.specs.declared.Module.{Module}
+use Rattle.links_wiring.specs.declared.Module.the-variants.{Screen, Keyboard, Modem, Socket}
 use Rattle.links.specs.declared.Links.{Links}
-use Rattle.ears.specs.declared.Ear.the-variants.{Socket as fromSocket}
+use Rattle.links_ears.specs.declared.Ear.the-variants.{Socket as fromSocket}
 use Rattle.links.specs.Runs.{Call, key as keyCall, value, toLocal as localCall, toConnected as connectedCall}
 use Rattle.links.specs.Runs.{obey as linksObey, given, run as linksRun}
 use Rattle.links.proofs.Ranges.{run-kept}
-use Rattle.feeding.specs.Feeding.{fromLine, got, outlet, contents, fed}
-use Rattle.feeding.proofs.Outlets.{held}
-use Rattle.feeding.proofs.Suffices.{run-append, got-append, small-got}
-use Rattle.page.specs.declared.Screen.{Screen as Page}
-use Rattle.page.specs.Ranges.{InScreen}
-use Rattle.page.proofs.Stays.{unbroken}
-use Rattle.answers.specs.declared.Answer.the-variants.{Taken}
+use Rattle.board_feeding.specs.Feeding.{fromLine, got, outlet, contents, fed}
+use Rattle.board_feeding.proofs.Outlets.{held}
+use Rattle.board_feeding.proofs.Suffices.{run-append, got-append, small-got}
+use Rattle.screen_page.specs.declared.Screen.{Screen as Page}
+use Rattle.screen_page.specs.Ranges.{InScreen}
+use Rattle.screen_page.proofs.Stays.{unbroken}
+use Rattle.screen_answers.specs.declared.Answer.the-variants.{Taken}
 use Rattle.screen.specs.declared.Ran.{Ran}
 use Rattle.screen.specs.Calls.{ran}
 use Rattle.screen.proofs.Given.{ran-none, ran-in, run-parts, run-taken}

@@ -5,18 +5,18 @@ use lib.ListN.{length}
 use Rattle.laws.proofs.Computed.{and-left, and-right, holds, is-true}
 use Rattle.values.specs.Large.{Values}
 use Rattle.values.proofs.Found.{values-none}
-use Rattle.wiring.specs.declared.Module.the-variants.{Screen, Keyboard, Modem, Socket}
-use Rattle.wiring.specs.Tables.{NoneItself}
-use Rattle.hearing.specs.Hearing.{codesOf}
-use Rattle.ears.specs.declared.Ear.{Ear}
-use Rattle.ears.specs.declared.Ear.the-variants.{Modem as modem, Socket as socket}
-use Rattle.receiver.specs.States.{inRange as receiverInRange}
-use Rattle.receiver.proofs.Kept.{new-in}
+use Rattle.links_wiring.specs.declared.Module.the-variants.{Screen, Keyboard, Modem, Socket}
+use Rattle.links_wiring.specs.Tables.{NoneItself}
+use Rattle.links_hearing.specs.Hearing.{codesOf}
+use Rattle.links_ears.specs.declared.Ear.{Ear}
+use Rattle.links_ears.specs.declared.Ear.the-variants.{Modem as modem, Socket as socket}
+use Rattle.line_receiver.specs.States.{inRange as receiverInRange}
+use Rattle.line_receiver.proofs.Kept.{new-in}
 use Rattle.links.specs.States.{unfinished, inRange as linksInRange}
 use Rattle.links.specs.Runs.{InRange as LinksIn}
 use Rattle.links.proofs.Ranges.{not-true, passed, tested as links-tested}
-use Rattle.page.specs.Ranges.{broken}
-use Rattle.page.proofs.Stays.{true-screen, whole, unbroken, fresh-in-range}
+use Rattle.screen_page.specs.Ranges.{broken}
+use Rattle.screen_page.proofs.Stays.{true-screen, whole, unbroken, fresh-in-range}
 use Rattle.board.specs.declared.Board.{Board}
 use Rattle.board.specs.Boards.{freshBoard, inRange}
 use Rattle.board.specs.Runs.{InBoard}

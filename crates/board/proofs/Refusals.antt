@@ -4,11 +4,11 @@ use mathlib.Core.List.{[]}
 use mathlib.Core.Bool.{Bool, true, false, not, _&&_}
 use Rattle.laws.proofs.Computed.{and-left, and-right, fails, holds, is-true}
 use Rattle.numbers.specs.Numbers.{toldOf}
-use Rattle.receiver.specs.States.{inRange as receiverInRange}
-use Rattle.receiver.specs.Runs.{byte, on, off, ask}
-use Rattle.wiring.specs.declared.Module.{Module}
-use Rattle.wiring.specs.declared.Module.the-variants.{Screen, Keyboard, Modem, Socket}
-use Rattle.ears.specs.declared.Ear.the-variants.{Socket as fromSocket}
+use Rattle.line_receiver.specs.States.{inRange as receiverInRange}
+use Rattle.line_receiver.specs.Runs.{byte, on, off, ask}
+use Rattle.links_wiring.specs.declared.Module.{Module}
+use Rattle.links_wiring.specs.declared.Module.the-variants.{Screen, Keyboard, Modem, Socket}
+use Rattle.links_ears.specs.declared.Ear.the-variants.{Socket as fromSocket}
 use Rattle.links.specs.declared.Answer.{Answer}
 use Rattle.links.specs.declared.Answer.the-variants.{Taken, TooLarge, Broken}
 use Rattle.links.specs.States.{inRange as linksInRange}
@@ -16,8 +16,8 @@ use Rattle.links.specs.Calls.{told}
 use Rattle.links.specs.Runs.{Call, key as keyCall, value, toLocal as localCall, toConnected as connectedCall}
 use Rattle.links.specs.Runs.{obey as linksObey, tooLarge as largeCall}
 use Rattle.links.proofs.Refusals.{large as links-large, taken-else}
-use Rattle.page.specs.declared.Screen.{Screen as Page}
-use Rattle.page.specs.Ranges.{broken as screenBroken}
+use Rattle.screen_page.specs.declared.Screen.{Screen as Page}
+use Rattle.screen_page.specs.Ranges.{broken as screenBroken}
 use Rattle.screen.proofs.Given.{ran-none}
 use Rattle.board.specs.declared.Board.{Board}
 use Rattle.board.specs.declared.Outcome.{Outcome}

@@ -7,22 +7,22 @@ use native.Mathlib.Omega.{arith}
 use lib.ListN.{length, replicate}
 use Rattle.values.specs.Large.{Values}
 use Rattle.values.proofs.Found.{values-none, values-cons, values-append}
-use Rattle.wiring.specs.declared.Module.the-variants.{Screen, Modem}
-use Rattle.wiring.specs.Tables.{reaches}
-use Rattle.hearing.specs.declared.Unfinished.the-variants.{Free}
-use Rattle.hearing.specs.Phrases.{Phrase, AllProper, allValues, allFlowing, Phrased}
-use Rattle.receiver.specs.declared.Receiver.{Receiver}
-use Rattle.receiver.specs.Runs.{Event as Heard, byte, on, obey as receiverObey, sentBy, sent, allPassed, allAsked}
-use Rattle.receiver.specs.Line.{blocksFor, madeOf, filled, joined, Sending, through}
-use Rattle.receiver.proofs.Whole.{sending, unhit}
-use Rattle.ears.specs.declared.Ear.the-variants.{Modem as modem}
+use Rattle.links_wiring.specs.declared.Module.the-variants.{Screen, Modem}
+use Rattle.links_wiring.specs.Tables.{reaches}
+use Rattle.links_hearing.specs.declared.Unfinished.the-variants.{Free}
+use Rattle.links_hearing.specs.Phrases.{Phrase, AllProper, allValues, allFlowing, Phrased}
+use Rattle.line_receiver.specs.declared.Receiver.{Receiver}
+use Rattle.line_receiver.specs.Runs.{Event as Heard, byte, on, obey as receiverObey, sentBy, sent, allPassed, allAsked}
+use Rattle.line_receiver.specs.Line.{blocksFor, madeOf, filled, joined, Sending, through}
+use Rattle.line_receiver.proofs.Whole.{sending, unhit}
+use Rattle.links_ears.specs.declared.Ear.the-variants.{Modem as modem}
 use Rattle.links.specs.declared.Links.{Links}
 use Rattle.links.specs.States.{unfinished}
 use Rattle.links.specs.Runs.{Call, value, obey as linksObey, given, gotFrom, Throughout, Says}
 use Rattle.links.proofs.Own.{can-say}
 use Rattle.links.proofs.Through.{comes-through}
-use Rattle.feeding.specs.Feeding.{fromLine, got}
-use Rattle.answers.specs.declared.Answer.the-variants.{Taken}
+use Rattle.board_feeding.specs.Feeding.{fromLine, got}
+use Rattle.screen_answers.specs.declared.Answer.the-variants.{Taken}
 use Rattle.screen.specs.Calls.{ran}
 use Rattle.board.specs.declared.Board.{Board}
 use Rattle.board.specs.Runs.{Event, front, run, requests, heardIn, callsIn, InBoard}

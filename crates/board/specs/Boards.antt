@@ -1,9 +1,9 @@
 -- A board: receiver, links and screen (01, "What the board does"). Assumes nothing.
 use mathlib.Core.Bool.{Bool, _&&_, not}
-use Rattle.receiver.specs.States.{newReceiver, inRange as receiverInRange}
+use Rattle.line_receiver.specs.States.{newReceiver, inRange as receiverInRange}
 use Rattle.links.specs.States.{localLinks, inRange as linksInRange}
-use Rattle.page.specs.Pages.{freshScreen}
-use Rattle.page.specs.Ranges.{broken}
+use Rattle.screen_page.specs.Pages.{freshScreen}
+use Rattle.screen_page.specs.Ranges.{broken}
 use Rattle.board.specs.declared.Board.{Board}
 
 -- "A new receiver is off"; the local table, nothing unfinished; "a fresh screen"

@@ -4,18 +4,18 @@ use mathlib.Core.Bool.{cond}
 use mathlib.Core.List.{List, []}
 use Prim.Native.Nat.{ℕ}
 use lib.ListN.{take, replicate}
-use Rattle.receiver.specs.declared.Receiver.{Receiver}
-use Rattle.receiver.specs.declared.Stepped.{Stepped}
-use Rattle.receiver.specs.Calls.{stepped, switchedOn as receiverOn, switchedOff as receiverOff}
-use Rattle.receiver.specs.Calls.{askedAgain as receiverAsked}
-use Rattle.sending.specs.Sending.{gets}
+use Rattle.line_receiver.specs.declared.Receiver.{Receiver}
+use Rattle.line_receiver.specs.declared.Stepped.{Stepped}
+use Rattle.line_receiver.specs.Calls.{stepped, switchedOn as receiverOn, switchedOff as receiverOff}
+use Rattle.line_receiver.specs.Calls.{askedAgain as receiverAsked}
+use Rattle.links_sending.specs.Sending.{gets}
 use Rattle.links.specs.declared.Links.{Links}
 use Rattle.links.specs.declared.Answer.{Answer}
 use Rattle.links.specs.declared.Answer.the-variants.{Taken, Broken}
 use Rattle.links.specs.declared.Outcome.{Outcome as LinksOutcome}
 use Rattle.links.specs.Calls.{fromKeyboard, fromSocket, withLocal as linksLocal, withConnected as linksConnected}
-use Rattle.feeding.specs.declared.Shares.{Shares}
-use Rattle.feeding.specs.Feeding.{outlet, contents, sharesOf, fed}
+use Rattle.board_feeding.specs.declared.Shares.{Shares}
+use Rattle.board_feeding.specs.Feeding.{outlet, contents, sharesOf, fed}
 use Rattle.screen.specs.Calls.{ran}
 use Rattle.board.specs.declared.Board.{Board}
 use Rattle.board.specs.declared.Outcome.{Outcome}

@@ -7,19 +7,19 @@ use Prim.Native.Nat.{ℕ}
 use lib.Dec.{ltb}
 use lib.ListN.{take}
 use Rattle.numbers.specs.Numbers.{Told, toldOf}
-use Rattle.receiver.specs.declared.Receiver.{Receiver}
-use Rattle.receiver.specs.States.{InRange as ReceiverIn}
-use Rattle.receiver.specs.Runs.{Event as Heard, byte, on, off, ask, obey as receiverObey, sentBy}
-use Rattle.receiver.specs.Runs.{run as receiverRun, sent, allAsked}
-use Rattle.wiring.specs.declared.Module.{Module}
-use Rattle.wiring.specs.declared.Module.the-variants.{Screen, Keyboard, Modem, Socket}
-use Rattle.ears.specs.declared.Ear.the-variants.{Socket as fromSocket}
+use Rattle.line_receiver.specs.declared.Receiver.{Receiver}
+use Rattle.line_receiver.specs.States.{InRange as ReceiverIn}
+use Rattle.line_receiver.specs.Runs.{Event as Heard, byte, on, off, ask, obey as receiverObey, sentBy}
+use Rattle.line_receiver.specs.Runs.{run as receiverRun, sent, allAsked}
+use Rattle.links_wiring.specs.declared.Module.{Module}
+use Rattle.links_wiring.specs.declared.Module.the-variants.{Screen, Keyboard, Modem, Socket}
+use Rattle.links_ears.specs.declared.Ear.the-variants.{Socket as fromSocket}
 use Rattle.links.specs.Runs.{Call, key as keyCall, value, toLocal as localCall, toConnected as connectedCall}
 use Rattle.links.specs.Runs.{run as linksRun}
 use Rattle.links.specs.Runs.{InRange as LinksIn}
-use Rattle.feeding.specs.Feeding.{fromLine, got, contents}
-use Rattle.page.specs.Ranges.{InScreen}
-use Rattle.answers.specs.declared.Answer.the-variants.{Taken}
+use Rattle.board_feeding.specs.Feeding.{fromLine, got, contents}
+use Rattle.screen_page.specs.Ranges.{InScreen}
+use Rattle.screen_answers.specs.declared.Answer.the-variants.{Taken}
 use Rattle.screen.specs.Calls.{ran}
 use Rattle.board.specs.declared.Board.{Board}
 use Rattle.board.specs.declared.Outcome.{Outcome}

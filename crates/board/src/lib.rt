@@ -4,26 +4,26 @@
 // these send to the screen is written there, and what they send to keyboard, modem and socket is handed out. The
 // receiver's requests to the modem are handed out apart: they carry parity already, and what the links send does not.
 // Every call takes any board and any value. A board of which any part is out of range, and a key or a socket's value
-// above 127, are refused, and nothing changes. The crate `pieces` takes line bytes many at a time.
+// above 127, are refused, and nothing changes. The crate `board_pieces` takes line bytes many at a time.
 //
 // specs/Boards says what a board is, specs/Calls what each call does to it, specs/Runs what a whole run is; proofs/
 // shows that each part goes its own way in every run.
 ghost use mathlib.Core.Path.{_≡_};
 ghost use Prim.Native.Nat.{_≤_};
-ghost use Rattle.feeding.specs.Feeding.{contents, Enough};
+ghost use Rattle.board_feeding.specs.Feeding.{contents, Enough};
 ghost use Rattle.screen.specs.Calls.{ran};
 ghost use Rattle.board.specs.Boards.{freshBoard, inRange};
 ghost use Rattle.board.specs.Calls.{refused, joined, following, passing};
 ghost use Rattle.board.specs.Calls.{atLine, switchedOn, switchedOff, askedAgain};
 ghost use Rattle.board.specs.Calls.{atKey, atSocket, withLocal, withConnected};
-use feeding::Outlet;
-use feeding::Shares;
+use board_feeding::Outlet;
+use board_feeding::Shares;
 // What a call of a board answers is what one of the links can: the paper's 0, 2 and 5.
+use line_receiver::Receiver;
+use line_receiver::Stepped;
 pub use links::Answer;
 use links::Links;
-use page::Screen;
-use receiver::Receiver;
-use receiver::Stepped;
+use screen_page::Screen;
 
 pub struct Board {
     pub receiver: Receiver,
@@ -90,7 +90,7 @@ impl Board {
     {
         let links = self.links;
         let screen = self.screen;
-        if receiver::in_range(self.receiver) {
+        if line_receiver::in_range(self.receiver) {
             if links.in_range() {
                 if screen.is_broken() {
                     return false;
@@ -140,7 +140,7 @@ impl Board {
     {
         if self.in_range() {
             let values = heard.values;
-            let fed = feeding::feed(self.links, values, heard.passed);
+            let fed = board_feeding::feed(self.links, values, heard.passed);
             let receiver = heard.next;
             let links = fed.links;
             let shares = fed.shares;
@@ -160,7 +160,7 @@ impl Board {
             let links = outcome.next;
             let answer = outcome.answer;
             let request = [0u8; 2];
-            let shares = feeding::share_out(sent);
+            let shares = board_feeding::share_out(sent);
             return self.join(receiver, links, shares, answer, request, 0);
         }
         refuse(self, Answer::Broken)

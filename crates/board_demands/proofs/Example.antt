@@ -7,25 +7,25 @@ use native.Mathlib.Omega.{arith}
 use lib.ListN.{replicate}
 use Rattle.values.specs.Large.{Values, firstLarge}
 use Rattle.values.proofs.Found.{all-small}
-use Rattle.division.specs.Division.{lowBits, bits, reduce, divide}
-use Rattle.parity.specs.Parity.{ones, even, allEven, withParity}
-use Rattle.validity.specs.Block.{codeBits, remainder, valid}
-use Rattle.validity.specs.Changed.{flip}
-use Rattle.reader.specs.Judging.{tryFrom, verdict, left}
-use Rattle.wiring.specs.declared.Module.the-variants.{Screen}
-use Rattle.hearing.specs.declared.Unfinished.the-variants.{Free}
-use Rattle.hearing.specs.Phrases.{alone, AllProper, Phrased}
-use Rattle.receiver.specs.States.{newReceiver}
-use Rattle.receiver.specs.Runs.{Event as Heard, byte, on, sent, allPassed, allAsked}
-use Rattle.cells.specs.declared.Cell.{Cell}
-use Rattle.cells.specs.Within.{goodCharacter}
-use Rattle.sheet.specs.Clearing.{cleared}
-use Rattle.sheet.specs.Within.{allGood}
-use Rattle.pen.specs.Pens.{goodSpot, inRange as penInRange}
-use Rattle.planning.specs.Obeying.{gone, obeyed}
-use Rattle.page.specs.declared.Screen.{Screen as Page}
-use Rattle.page.specs.Pages.{freshScreen}
-use Rattle.page.specs.Ranges.{inRange, broken}
+use Rattle.block_division.specs.Division.{lowBits, bits, reduce, divide}
+use Rattle.block_parity.specs.Parity.{ones, even, allEven, withParity}
+use Rattle.block_validity.specs.Block.{codeBits, remainder, valid}
+use Rattle.block_validity.specs.Changed.{flip}
+use Rattle.block_reader.specs.Judging.{tryFrom, verdict, left}
+use Rattle.links_wiring.specs.declared.Module.the-variants.{Screen}
+use Rattle.links_hearing.specs.declared.Unfinished.the-variants.{Free}
+use Rattle.links_hearing.specs.Phrases.{alone, AllProper, Phrased}
+use Rattle.line_receiver.specs.States.{newReceiver}
+use Rattle.line_receiver.specs.Runs.{Event as Heard, byte, on, sent, allPassed, allAsked}
+use Rattle.screen_cells.specs.declared.Cell.{Cell}
+use Rattle.screen_cells.specs.Within.{goodCharacter}
+use Rattle.screen_sheet.specs.Clearing.{cleared}
+use Rattle.screen_sheet.specs.Within.{allGood}
+use Rattle.screen_pen.specs.Pens.{goodSpot, inRange as penInRange}
+use Rattle.screen_planning.specs.Obeying.{gone, obeyed}
+use Rattle.screen_page.specs.declared.Screen.{Screen as Page}
+use Rattle.screen_page.specs.Pages.{freshScreen}
+use Rattle.screen_page.specs.Ranges.{inRange, broken}
 use Rattle.screen.specs.Screens.{written, writtenTimes, applied, advanced, advancedBy}
 use Rattle.screen.specs.Calls.{ran}
 use Rattle.board.specs.Boards.{freshBoard}

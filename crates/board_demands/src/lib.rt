@@ -8,27 +8,27 @@ ghost use mathlib.Core.List.{List, [], _∷_, _++_, map};
 ghost use Prim.Native.Nat.{ℕ, _≤_, _<_};
 ghost use lib.ListN.{length, replicate};
 ghost use Rattle.values.specs.Large.{Values};
-ghost use Rattle.wiring.specs.declared.Module.{Module};
-ghost use Rattle.wiring.specs.declared.Module.the-variants.{Screen, Keyboard, Modem, Socket};
-ghost use Rattle.wiring.specs.Tables.{reaches};
-ghost use Rattle.replies.specs.Replies.{statusesOf};
-ghost use Rattle.hearing.specs.declared.Unfinished.the-variants.{Free};
-ghost use Rattle.hearing.specs.Phrases.{Phrase, AllProper, allValues, allFlowing, Phrased};
-ghost use Rattle.phases.specs.declared.Phase.the-variants.{Off};
-ghost use Rattle.receiver.specs.States.{inRange as receiverInRange};
-ghost use Rattle.receiver.specs.Calls.{stepped};
-ghost use Rattle.receiver.specs.Runs.{Event as Heard, byte, on, obey as receiverObey, sentBy};
-ghost use Rattle.receiver.specs.Line.{madeOf, filled, joined, Sending};
-ghost use Rattle.ears.specs.declared.Ear.{Ear};
-ghost use Rattle.ears.specs.declared.Ear.the-variants.{Modem as modem, Socket as port};
+ghost use Rattle.links_wiring.specs.declared.Module.{Module};
+ghost use Rattle.links_wiring.specs.declared.Module.the-variants.{Screen, Keyboard, Modem, Socket};
+ghost use Rattle.links_wiring.specs.Tables.{reaches};
+ghost use Rattle.links_replies.specs.Replies.{statusesOf};
+ghost use Rattle.links_hearing.specs.declared.Unfinished.the-variants.{Free};
+ghost use Rattle.links_hearing.specs.Phrases.{Phrase, AllProper, allValues, allFlowing, Phrased};
+ghost use Rattle.line_phases.specs.declared.Phase.the-variants.{Off};
+ghost use Rattle.line_receiver.specs.States.{inRange as receiverInRange};
+ghost use Rattle.line_receiver.specs.Calls.{stepped};
+ghost use Rattle.line_receiver.specs.Runs.{Event as Heard, byte, on, obey as receiverObey, sentBy};
+ghost use Rattle.line_receiver.specs.Line.{madeOf, filled, joined, Sending};
+ghost use Rattle.links_ears.specs.declared.Ear.{Ear};
+ghost use Rattle.links_ears.specs.declared.Ear.the-variants.{Modem as modem, Socket as port};
 ghost use Rattle.links.specs.declared.Links.{Links};
 ghost use Rattle.links.specs.States.{unfinished, inRange as linksInRange};
 ghost use Rattle.links.specs.Runs.{Throughout};
-ghost use Rattle.answers.specs.declared.Answer.the-variants.{Taken as TakenByScreen};
+ghost use Rattle.screen_answers.specs.declared.Answer.the-variants.{Taken as TakenByScreen};
 ghost use Rattle.screen.specs.Calls.{ran};
 ghost use Rattle.links.specs.declared.Answer.the-variants.{Taken, TooLarge, Broken};
 ghost use Rattle.links.specs.Calls.{told};
-ghost use Rattle.feeding.specs.Feeding.{fromLine, nobody, fed, Enough};
+ghost use Rattle.board_feeding.specs.Feeding.{fromLine, nobody, fed, Enough};
 ghost use Rattle.board.specs.declared.Board.{Board};
 ghost use Rattle.board.specs.Boards.{freshBoard, inRange};
 ghost use Rattle.board.specs.Calls.{refused, joined as joinedOf, atLine, switchedOn};
@@ -36,17 +36,17 @@ ghost use Rattle.board.specs.Pages.{NoCommand};
 ghost use Rattle.board.specs.Runs.{Event, front, key, socket, toLocal, toConnected, obey, run, outTo, request};
 ghost use Rattle.board.specs.Runs.{handedTo, requests, heardIn, callsIn, Outside};
 ghost use Rattle.board.specs.Runs.{Goes, InBoard, Unmoved, tooLarge, callTold};
-ghost use Rattle.front.specs.declared.Room.{Room};
-ghost use Rattle.front.specs.declared.Front.{Front};
-ghost use Rattle.front.specs.Ample.{Ample};
-ghost use Rattle.front.specs.Hearing.{heardBy, unheard};
-ghost use Rattle.pieces.specs.Pieces.{told as pieceTold, linesOf, linesTold, isTaken, singly, handed, asked};
-ghost use Rattle.pieces.specs.Pieces.{refused as pieceRefused};
-ghost use Rattle.pieces.specs.declared.Answer.the-variants.{NoRoom, Broken as PieceBroken};
-ghost use Rattle.pieces.specs.Noted.{noted, notedOf, notedTold, isNoted};
-ghost use Rattle.pieces.specs.Claims.{TakenWhole, NothingTaken, RoomFor};
-ghost use Rattle.pieces.specs.Playing.{frontOf};
-ghost use Rattle.pieces.specs.Cuts.{secondTaken, InTwo};
+ghost use Rattle.board_front.specs.declared.Room.{Room};
+ghost use Rattle.board_front.specs.declared.Front.{Front};
+ghost use Rattle.board_front.specs.Ample.{Ample};
+ghost use Rattle.board_front.specs.Hearing.{heardBy, unheard};
+ghost use Rattle.board_pieces.specs.Pieces.{told as pieceTold, linesOf, linesTold, isTaken, singly, handed, asked};
+ghost use Rattle.board_pieces.specs.Pieces.{refused as pieceRefused};
+ghost use Rattle.board_pieces.specs.declared.Answer.the-variants.{NoRoom, Broken as PieceBroken};
+ghost use Rattle.board_pieces.specs.Noted.{noted, notedOf, notedTold, isNoted};
+ghost use Rattle.board_pieces.specs.Claims.{TakenWhole, NothingTaken, RoomFor};
+ghost use Rattle.board_pieces.specs.Playing.{frontOf};
+ghost use Rattle.board_pieces.specs.Cuts.{secondTaken, InTwo};
 ghost use Rattle.board_demands.specs.Example.{arrived, wanted, shown};
 
 // In every run of a board in range each part goes its own way: the receiver hears the line bytes, switchings and
@@ -202,10 +202,11 @@ pub fn seventy_five_places_suffice()
     ensures { λ _. ⌜ ((l : Links) (vs : List ℕ) → length vs ≤ 15 → Enough (fed l vs .shares)) ⌝ }
 {}
 
-// Hearing a line byte by itself (`front::hear`) and handing values on (`feeding::feed`) give no number: the board's
-// calls give it, and do the rest. A byte heard by receiver and links of a board in range is what the call `line` does,
-// but for the screen, which is then written. What would be 5 or 2 changes nothing: a broken receiver hears nothing;
-// broken links take no value, and nobody gets anything, while the receiver goes on; and a value above 127 is left out.
+// Hearing a line byte by itself (`board_front::hear`) and handing values on (`board_feeding::feed`) give no number: the
+// board's calls give it, and do the rest. A byte heard by receiver and links of a board in range is what the call
+// `line` does, but for the screen, which is then written. What would be 5 or 2 changes nothing: a broken receiver hears
+// nothing; broken links take no value, and nobody gets anything, while the receiver goes on; and a value above 127 is
+// left out.
 pub fn hearing_is_the_call_without_its_number()
     ensures { λ _. ⌜ ((b : Board) (x : ℕ) → inRange b ≡ true → atLine b x ≡ (let h = heardBy (frontOf b) x in
         joinedOf b (h .front .receiver) (h .front .links) (h .shares) Taken (h .request) (h .asked))) ⌝ }

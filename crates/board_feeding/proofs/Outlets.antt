@@ -8,13 +8,13 @@ use native.Mathlib.Omega.{arith}
 use lib.ListN.{length, take, drop, replicate, length-append}
 use lib.Seq.{take-all, length-take-le, take-append-seam, drop-append-add, paste}
 use Rattle.laws.proofs.Computed.{apart}
-use Rattle.wiring.specs.declared.Module.{Module}
-use Rattle.wiring.specs.declared.Module.the-variants.{Screen, Keyboard, Modem, Socket}
-use Rattle.sending.specs.declared.Bytes.{Bytes}
-use Rattle.sending.specs.declared.Sent.{Sent}
-use Rattle.sending.specs.Sending.{bytesOf, partOf, gets}
-use Rattle.feeding.specs.declared.Outlet.{Outlet}
-use Rattle.feeding.specs.Feeding.{outlet, contents, sharesOf, appended, gathered}
+use Rattle.links_wiring.specs.declared.Module.{Module}
+use Rattle.links_wiring.specs.declared.Module.the-variants.{Screen, Keyboard, Modem, Socket}
+use Rattle.links_sending.specs.declared.Bytes.{Bytes}
+use Rattle.links_sending.specs.declared.Sent.{Sent}
+use Rattle.links_sending.specs.Sending.{bytesOf, partOf, gets}
+use Rattle.board_feeding.specs.declared.Outlet.{Outlet}
+use Rattle.board_feeding.specs.Feeding.{outlet, contents, sharesOf, appended, gathered}
 
 -- no more are taken than there are
 pub taken-most : (n : ℕ) (vs : List ℕ) → length (take n vs) ≤ length vs

@@ -9,22 +9,22 @@ use lib.Dec.{ltb, eqb}
 use lib.ListN.{length, take, getD}
 use borrow.Author.Tests.{ltb-true}
 use Rattle.laws.proofs.Computed.{fails, holds, is-true, and-left, and-right}
-use Rattle.wiring.specs.declared.Module.{Module}
-use Rattle.wiring.specs.declared.Module.the-variants.{Screen, Keyboard, Modem, Socket}
-use Rattle.wiring.specs.Tables.{reaches, selfLinked}
-use Rattle.hearing.specs.Hearing.{inRange as heldInRange}
-use Rattle.hearing.specs.declared.Unfinished.{Unfinished}
-use Rattle.hearing.specs.declared.Unfinished.the-variants.{Free, Escape, Pro1, Pro2, Pro2With}
-use Rattle.hearing.specs.declared.Unfinished.the-variants.{Pro3, Pro3With, Pro3Both}
-use Rattle.ears.specs.declared.Ear.the-variants.{Modem as modem}
+use Rattle.links_wiring.specs.declared.Module.{Module}
+use Rattle.links_wiring.specs.declared.Module.the-variants.{Screen, Keyboard, Modem, Socket}
+use Rattle.links_wiring.specs.Tables.{reaches, selfLinked}
+use Rattle.links_hearing.specs.Hearing.{inRange as heldInRange}
+use Rattle.links_hearing.specs.declared.Unfinished.{Unfinished}
+use Rattle.links_hearing.specs.declared.Unfinished.the-variants.{Free, Escape, Pro1, Pro2, Pro2With}
+use Rattle.links_hearing.specs.declared.Unfinished.the-variants.{Pro3, Pro3With, Pro3Both}
+use Rattle.links_ears.specs.declared.Ear.the-variants.{Modem as modem}
 use Rattle.links.specs.declared.Links.{Links}
 use Rattle.links.specs.States.{inRange, connectedLinks}
 use Rattle.links.specs.Runs.{value, run, PassedOn}
 use Rattle.links.proofs.Ranges.{tested}
 use Rattle.links.proofs.Flow.{plain-goes}
-use Rattle.feeding.specs.declared.Fed.{Fed}
-use Rattle.feeding.specs.Feeding.{fromLine, got, sharesOf, fed}
-use Rattle.feeding.specs.Plain.{plain, allPlain, isFree, arePlain}
+use Rattle.board_feeding.specs.declared.Fed.{Fed}
+use Rattle.board_feeding.specs.Feeding.{fromLine, got, sharesOf, fed}
+use Rattle.board_feeding.specs.Plain.{plain, allPlain, isFree, arePlain}
 
 -- ---- what the test says
 

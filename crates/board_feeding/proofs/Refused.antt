@@ -5,11 +5,11 @@ use mathlib.Core.List.{List, [], _∷_, _++_}
 use Prim.Native.Nat.{ℕ, _<_}
 use lib.Dec.{ltb}
 use borrow.Author.Tests.{lt-ltb}
-use Rattle.wiring.specs.declared.Module.{Module}
-use Rattle.wiring.specs.declared.Module.the-variants.{Screen, Keyboard, Modem, Socket}
-use Rattle.sending.specs.Sending.{gets}
-use Rattle.sending.proofs.Getting.{gets-nothing}
-use Rattle.ears.specs.declared.Ear.the-variants.{Modem as modem}
+use Rattle.links_wiring.specs.declared.Module.{Module}
+use Rattle.links_wiring.specs.declared.Module.the-variants.{Screen, Keyboard, Modem, Socket}
+use Rattle.links_sending.specs.Sending.{gets}
+use Rattle.links_sending.proofs.Getting.{gets-nothing}
+use Rattle.links_ears.specs.declared.Ear.the-variants.{Modem as modem}
 use Rattle.links.specs.declared.Links.{Links}
 use Rattle.links.specs.declared.Answer.{Answer}
 use Rattle.links.specs.declared.Outcome.{Outcome}
@@ -17,8 +17,8 @@ use Rattle.links.specs.States.{inRange}
 use Rattle.links.specs.Calls.{refused}
 use Rattle.links.specs.Runs.{Call, value, obey, run}
 use Rattle.links.proofs.Refusals.{broken, large}
-use Rattle.feeding.specs.declared.Fed.{Fed}
-use Rattle.feeding.specs.Feeding.{fromLine, got, sharesOf, nobody, fed}
+use Rattle.board_feeding.specs.declared.Fed.{Fed}
+use Rattle.board_feeding.specs.Feeding.{fromLine, got, sharesOf, nobody, fed}
 
 -- a value that the links refuse is left out
 module _ (l : Links) (v : ℕ) (a : Answer) (e : obey (value modem v) l ≡ refused l a) (vs : List ℕ) where

@@ -9,15 +9,15 @@ use lib.ListN.{length, take, getD, length-append, length-map}
 use lib.Seq.{take-suc, length-take-le}
 use Rattle.values.specs.Large.{Values}
 use Rattle.values.proofs.Found.{values-none, values-append}
-use Rattle.wiring.specs.declared.Module.{Module}
-use Rattle.wiring.specs.declared.Module.the-variants.{Screen, Keyboard, Modem, Socket}
+use Rattle.links_wiring.specs.declared.Module.{Module}
+use Rattle.links_wiring.specs.declared.Module.the-variants.{Screen, Keyboard, Modem, Socket}
 use Rattle.links.specs.declared.Links.{Links}
-use Rattle.ears.specs.declared.Ear.the-variants.{Modem as modem}
+use Rattle.links_ears.specs.declared.Ear.the-variants.{Modem as modem}
 use Rattle.links.specs.Calls.{fromModem}
 use Rattle.links.specs.Runs.{Call, value, obey, given, run}
 use Rattle.links.proofs.Few.{few}
-use Rattle.feeding.specs.Feeding.{fromLine, got, sharesOf, fed, Enough, gathered}
-use Rattle.feeding.proofs.Outlets.{taken-most, gathers}
+use Rattle.board_feeding.specs.Feeding.{fromLine, got, sharesOf, fed, Enough, gathered}
+use Rattle.board_feeding.proofs.Outlets.{taken-most, gathers}
 
 -- ---- some calls, then others
 

@@ -2,17 +2,17 @@
 use mathlib.Core.List.{List, [], _∷_, _++_, map}
 use Prim.Native.Nat.{ℕ, _+_, _-_, _≤_}
 use lib.ListN.{length, take, drop, replicate}
-use Rattle.wiring.specs.declared.Module.{Module}
-use Rattle.wiring.specs.declared.Module.the-variants.{Screen, Keyboard, Modem, Socket}
-use Rattle.sending.specs.declared.Bytes.{Bytes}
-use Rattle.sending.specs.declared.Sent.{Sent}
-use Rattle.sending.specs.Sending.{bytesOf}
+use Rattle.links_wiring.specs.declared.Module.{Module}
+use Rattle.links_wiring.specs.declared.Module.the-variants.{Screen, Keyboard, Modem, Socket}
+use Rattle.links_sending.specs.declared.Bytes.{Bytes}
+use Rattle.links_sending.specs.declared.Sent.{Sent}
+use Rattle.links_sending.specs.Sending.{bytesOf}
 use Rattle.links.specs.declared.Links.{Links}
-use Rattle.ears.specs.declared.Ear.the-variants.{Modem as modem}
+use Rattle.links_ears.specs.declared.Ear.the-variants.{Modem as modem}
 use Rattle.links.specs.Runs.{Call, value, obey, given, run}
-use Rattle.feeding.specs.declared.Outlet.{Outlet}
-use Rattle.feeding.specs.declared.Shares.{Shares}
-use Rattle.feeding.specs.declared.Fed.{Fed}
+use Rattle.board_feeding.specs.declared.Outlet.{Outlet}
+use Rattle.board_feeding.specs.declared.Shares.{Shares}
+use Rattle.board_feeding.specs.declared.Fed.{Fed}
 
 -- ---- runs of the links
 

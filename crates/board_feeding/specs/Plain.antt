@@ -3,9 +3,9 @@ use mathlib.Core.Bool.{Bool, true, false, _&&_, not}
 use mathlib.Core.List.{List, [], _∷_}
 use Prim.Native.Nat.{ℕ}
 use lib.Dec.{ltb, eqb}
-use Rattle.hearing.specs.declared.Unfinished.{Unfinished}
-use Rattle.hearing.specs.declared.Unfinished.the-variants.{Free, Escape, Pro1, Pro2, Pro2With}
-use Rattle.hearing.specs.declared.Unfinished.the-variants.{Pro3, Pro3With, Pro3Both}
+use Rattle.links_hearing.specs.declared.Unfinished.{Unfinished}
+use Rattle.links_hearing.specs.declared.Unfinished.the-variants.{Free, Escape, Pro1, Pro2, Pro2With}
+use Rattle.links_hearing.specs.declared.Unfinished.the-variants.{Pro3, Pro3With, Pro3Both}
 use Rattle.links.specs.declared.Links.{Links}
 use Rattle.links.specs.States.{inRange}
 

@@ -8,16 +8,16 @@
 ghost use mathlib.Core.Path.{_≡_};
 ghost use Prim.Native.Nat.{_≤_, _<_};
 ghost use lib.ListN.{take};
-ghost use Rattle.sending.specs.Sending.{gets};
-ghost use Rattle.feeding.specs.Feeding.{appended, sharesOf, gathered, nobody, fed, Enough};
+ghost use Rattle.links_sending.specs.Sending.{gets};
+ghost use Rattle.board_feeding.specs.Feeding.{appended, sharesOf, gathered, nobody, fed, Enough};
 
 mod plain;
 
 use links::Links;
+use links_sending::Bytes;
+use links_sending::Sent;
 pub use plain::are_plain;
 use plain::pass_all;
-use sending::Bytes;
-use sending::Sent;
 
 // Up to seventy-five bytes: the first `count`. The places past them are 0.
 pub struct Outlet {

@@ -4,13 +4,13 @@ ghost use mathlib.Core.Bool.{true, cond};
 ghost use mathlib.Core.List.{[]};
 ghost use Prim.Native.Nat.{_≤_};
 ghost use lib.ListN.{take};
-ghost use Rattle.feeding.specs.Feeding.{outlet, fed};
-ghost use Rattle.feeding.specs.Plain.{plain, allPlain, isFree, arePlain};
+ghost use Rattle.board_feeding.specs.Feeding.{outlet, fed};
+ghost use Rattle.board_feeding.specs.Plain.{plain, allPlain, isFree, arePlain};
 use crate::Fed;
 use crate::Outlet;
 use crate::Shares;
-use hearing::Unfinished;
 use links::Links;
+use links_hearing::Unfinished;
 
 // Whether it is a value, and not ESC.
 fn is_plain_value(value: u8) -> bool

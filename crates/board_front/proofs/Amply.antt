@@ -7,34 +7,34 @@ use native.Mathlib.Omega.{arith}
 use lib.ListN.{length, length-append, length-map}
 use borrow.Author.Tests.{ltb-false}
 use Rattle.laws.proofs.Computed.{chosen}
-use Rattle.wiring.specs.declared.Module.{Module}
-use Rattle.wiring.specs.declared.Module.the-variants.{Keyboard, Modem, Socket}
-use Rattle.maker.specs.Making.{valuesOf}
-use Rattle.reader.specs.declared.Verdict.{Verdict}
-use Rattle.reader.specs.Judging.{verdict, left}
-use Rattle.codes.specs.declared.Listened.{Listened}
-use Rattle.codes.specs.declared.Listened.the-variants.{Seen, Resumed}
-use Rattle.codes.specs.Codes.{listened}
-use Rattle.phases.specs.Phases.{awaitsMore}
-use Rattle.phases.specs.declared.Phase.{Phase}
-use Rattle.phases.specs.declared.Phase.the-variants.{Off, Collecting, Waiting}
-use Rattle.receiver.specs.declared.Receiver.{Receiver}
-use Rattle.receiver.specs.declared.Stepped.{Stepped}
-use Rattle.receiver.specs.States.{inRange}
-use Rattle.receiver.specs.Calls.{whole, accepts, judgedAs, listening, byPhase, stepped, padded}
-use Rattle.receiver.specs.Runs.{sentBy, sent, allAsked}
-use Rattle.receiver.proofs.Asked.{asked-counted, fifteen}
-use Rattle.receiver.proofs.Fifteens.{take-short}
-use Rattle.ears.specs.declared.Ear.the-variants.{Modem as modem}
+use Rattle.links_wiring.specs.declared.Module.{Module}
+use Rattle.links_wiring.specs.declared.Module.the-variants.{Keyboard, Modem, Socket}
+use Rattle.block_maker.specs.Making.{valuesOf}
+use Rattle.block_reader.specs.declared.Verdict.{Verdict}
+use Rattle.block_reader.specs.Judging.{verdict, left}
+use Rattle.line_codes.specs.declared.Listened.{Listened}
+use Rattle.line_codes.specs.declared.Listened.the-variants.{Seen, Resumed}
+use Rattle.line_codes.specs.Codes.{listened}
+use Rattle.line_phases.specs.Phases.{awaitsMore}
+use Rattle.line_phases.specs.declared.Phase.{Phase}
+use Rattle.line_phases.specs.declared.Phase.the-variants.{Off, Collecting, Waiting}
+use Rattle.line_receiver.specs.declared.Receiver.{Receiver}
+use Rattle.line_receiver.specs.declared.Stepped.{Stepped}
+use Rattle.line_receiver.specs.States.{inRange}
+use Rattle.line_receiver.specs.Calls.{whole, accepts, judgedAs, listening, byPhase, stepped, padded}
+use Rattle.line_receiver.specs.Runs.{sentBy, sent, allAsked}
+use Rattle.line_receiver.proofs.Asked.{asked-counted, fifteen}
+use Rattle.line_receiver.proofs.Fifteens.{take-short}
+use Rattle.links_ears.specs.declared.Ear.the-variants.{Modem as modem}
 use Rattle.links.specs.Runs.{Call, value}
-use Rattle.feeding.specs.Feeding.{fromLine, got}
-use Rattle.feeding.proofs.Suffices.{few-got}
-use Rattle.front.specs.declared.Front.{Front}
-use Rattle.front.specs.declared.Room.{Room}
-use Rattle.front.specs.Hearing.{bytes, calls, toEach, asks}
-use Rattle.front.specs.Fitting.{within, needed}
-use Rattle.front.proofs.Rooms.{passes}
-use Rattle.front.specs.Ample.{Ample}
+use Rattle.board_feeding.specs.Feeding.{fromLine, got}
+use Rattle.board_feeding.proofs.Suffices.{few-got}
+use Rattle.board_front.specs.declared.Front.{Front}
+use Rattle.board_front.specs.declared.Room.{Room}
+use Rattle.board_front.specs.Hearing.{bytes, calls, toEach, asks}
+use Rattle.board_front.specs.Fitting.{within, needed}
+use Rattle.board_front.proofs.Rooms.{passes}
+use Rattle.board_front.specs.Ample.{Ample}
 
 -- ---- what is held may still bring values
 

@@ -5,18 +5,18 @@ use Prim.Native.Nat.{ℕ, _+_, _<_}
 use native.Mathlib.Numerals.{add-one}
 use lib.ListN.{length, take, getD}
 use lib.Seq.{take-suc}
-use Rattle.wiring.specs.declared.Module.{Module}
-use Rattle.receiver.specs.declared.Receiver.{Receiver}
-use Rattle.receiver.specs.Calls.{stepped}
-use Rattle.receiver.specs.Runs.{Event, byte, run as receiverRun, sentBy, sent, allPassed, allAsked}
-use Rattle.receiver.proofs.Kept.{run-append as heard-append, sent-append, asked-append}
+use Rattle.links_wiring.specs.declared.Module.{Module}
+use Rattle.line_receiver.specs.declared.Receiver.{Receiver}
+use Rattle.line_receiver.specs.Calls.{stepped}
+use Rattle.line_receiver.specs.Runs.{Event, byte, run as receiverRun, sentBy, sent, allPassed, allAsked}
+use Rattle.line_receiver.proofs.Kept.{run-append as heard-append, sent-append, asked-append}
 use Rattle.links.specs.declared.Links.{Links}
-use Rattle.ears.specs.declared.Ear.the-variants.{Modem as modem}
+use Rattle.links_ears.specs.declared.Ear.the-variants.{Modem as modem}
 use Rattle.links.specs.Runs.{Call, value, run as linksRun}
-use Rattle.feeding.specs.Feeding.{fromLine, got, fed}
-use Rattle.feeding.proofs.Suffices.{run-append, got-append}
-use Rattle.front.specs.declared.Front.{Front}
-use Rattle.front.specs.Hearing.{heardBy, bytes, calls, behind, toEach, asks}
+use Rattle.board_feeding.specs.Feeding.{fromLine, got, fed}
+use Rattle.board_feeding.proofs.Suffices.{run-append, got-append}
+use Rattle.board_front.specs.declared.Front.{Front}
+use Rattle.board_front.specs.Hearing.{heardBy, bytes, calls, behind, toEach, asks}
 
 -- ---- some bytes, then others
 

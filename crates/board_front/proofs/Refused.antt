@@ -3,16 +3,16 @@ use mathlib.Core.Path.{_≡_, refl, ap}
 use mathlib.Core.Bool.{false}
 use Prim.Native.Nat.{ℕ}
 use lib.ListN.{take}
-use Rattle.receiver.specs.declared.Stepped.{Stepped}
-use Rattle.receiver.specs.States.{inRange as receiverInRange}
-use Rattle.receiver.specs.Calls.{refused, stepped}
+use Rattle.line_receiver.specs.declared.Stepped.{Stepped}
+use Rattle.line_receiver.specs.States.{inRange as receiverInRange}
+use Rattle.line_receiver.specs.Calls.{refused, stepped}
 use Rattle.links.specs.States.{inRange as linksInRange}
-use Rattle.feeding.specs.declared.Fed.{Fed}
-use Rattle.feeding.specs.Feeding.{got, nobody, fed}
-use Rattle.feeding.proofs.Refused.{broken-fed}
-use Rattle.front.specs.declared.Front.{Front}
-use Rattle.front.specs.declared.Heard.{Heard}
-use Rattle.front.specs.Hearing.{heardBy, unheard}
+use Rattle.board_feeding.specs.declared.Fed.{Fed}
+use Rattle.board_feeding.specs.Feeding.{got, nobody, fed}
+use Rattle.board_feeding.proofs.Refused.{broken-fed}
+use Rattle.board_front.specs.declared.Front.{Front}
+use Rattle.board_front.specs.declared.Heard.{Heard}
+use Rattle.board_front.specs.Hearing.{heardBy, unheard}
 
 -- the receiver refuses the byte, and nothing is heard
 pub broken-receiver : (f : Front) (x : ℕ) → receiverInRange (f .receiver) ≡ false → heardBy f x ≡ unheard f

@@ -8,18 +8,18 @@ use lib.Dec.{leb, T}
 use lib.ListN.{length, take, drop, getD, length-append, take-append-drop}
 use borrow.Author.Tests.{leb-true, le-leb}
 use Rattle.laws.proofs.Computed.{and-left, and-right, holds, is-true, fails}
-use Rattle.receiver.specs.Calls.{stepped}
-use Rattle.receiver.proofs.Asked.{asked-counted}
-use Rattle.feeding.specs.Feeding.{fed}
-use Rattle.wiring.specs.declared.Module.{Module}
-use Rattle.wiring.specs.declared.Module.the-variants.{Keyboard, Modem, Socket}
-use Rattle.front.specs.declared.Front.{Front}
-use Rattle.front.specs.declared.Room.{Room}
-use Rattle.front.specs.declared.fitting.Left.{Left}
-use Rattle.front.specs.declared.fitting.Left.the-variants.{Enough, Short}
-use Rattle.front.specs.Hearing.{heardBy, behind, toEach, asks}
-use Rattle.front.specs.Fitting.{within, needed, needsOf, more, less, leftOver}
-use Rattle.front.proofs.Onwards.{each-append, asks-append, brings, requests, each-one, asks-one}
+use Rattle.line_receiver.specs.Calls.{stepped}
+use Rattle.line_receiver.proofs.Asked.{asked-counted}
+use Rattle.board_feeding.specs.Feeding.{fed}
+use Rattle.links_wiring.specs.declared.Module.{Module}
+use Rattle.links_wiring.specs.declared.Module.the-variants.{Keyboard, Modem, Socket}
+use Rattle.board_front.specs.declared.Front.{Front}
+use Rattle.board_front.specs.declared.Room.{Room}
+use Rattle.board_front.specs.declared.fitting.Left.{Left}
+use Rattle.board_front.specs.declared.fitting.Left.the-variants.{Enough, Short}
+use Rattle.board_front.specs.Hearing.{heardBy, behind, toEach, asks}
+use Rattle.board_front.specs.Fitting.{within, needed, needsOf, more, less, leftOver}
+use Rattle.board_front.proofs.Onwards.{each-append, asks-append, brings, requests, each-one, asks-one}
 
 pub record Fits (n r : Room) : Type 0 where
   pub keyboard : n .keyboard ≤ r .keyboard

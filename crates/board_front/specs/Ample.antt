@@ -1,6 +1,6 @@
 -- Room for whatever some bytes yield. Assumes nothing.
 use Prim.Native.Nat.{ℕ, _+_, _*_, _≤_}
-use Rattle.front.specs.declared.Room.{Room}
+use Rattle.board_front.specs.declared.Room.{Room}
 
 -- with at most sixteen bytes held before them, n bytes bring at most n + 16 values, and a value at most five bytes; a
 -- byte asks for at most two

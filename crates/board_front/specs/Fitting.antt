@@ -4,13 +4,13 @@ use mathlib.Core.List.{List}
 use Prim.Native.Nat.{ℕ, _+_, _-_}
 use lib.Dec.{leb}
 use lib.ListN.{length}
-use Rattle.wiring.specs.declared.Module.the-variants.{Keyboard, Modem, Socket}
-use Rattle.front.specs.declared.Front.{Front}
-use Rattle.front.specs.declared.Heard.{Heard}
-use Rattle.front.specs.declared.Room.{Room}
-use Rattle.front.specs.declared.fitting.Left.{Left}
-use Rattle.front.specs.declared.fitting.Left.the-variants.{Enough, Short}
-use Rattle.front.specs.Hearing.{toEach, asks}
+use Rattle.links_wiring.specs.declared.Module.the-variants.{Keyboard, Modem, Socket}
+use Rattle.board_front.specs.declared.Front.{Front}
+use Rattle.board_front.specs.declared.Heard.{Heard}
+use Rattle.board_front.specs.declared.Room.{Room}
+use Rattle.board_front.specs.declared.fitting.Left.{Left}
+use Rattle.board_front.specs.declared.fitting.Left.the-variants.{Enough, Short}
+use Rattle.board_front.specs.Hearing.{toEach, asks}
 
 abbrev pub roomIn : List ℕ → List ℕ → List ℕ → List ℕ → Room
 roomIn k m s q = record { keyboard = length k; modem = length m; socket = length s; requests = length q }

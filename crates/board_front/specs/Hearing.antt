@@ -2,14 +2,14 @@
 use mathlib.Core.List.{List, [], _∷_, _++_, map}
 use Prim.Native.Nat.{ℕ}
 use lib.ListN.{take, replicate}
-use Rattle.wiring.specs.declared.Module.{Module}
-use Rattle.receiver.specs.declared.Receiver.{Receiver}
-use Rattle.receiver.specs.Calls.{stepped}
-use Rattle.receiver.specs.Runs.{Event, byte, run as receiverRun, sentBy, sent, allAsked}
+use Rattle.links_wiring.specs.declared.Module.{Module}
+use Rattle.line_receiver.specs.declared.Receiver.{Receiver}
+use Rattle.line_receiver.specs.Calls.{stepped}
+use Rattle.line_receiver.specs.Runs.{Event, byte, run as receiverRun, sentBy, sent, allAsked}
 use Rattle.links.specs.Runs.{Call, run as linksRun}
-use Rattle.feeding.specs.Feeding.{fromLine, got, nobody, fed}
-use Rattle.front.specs.declared.Front.{Front}
-use Rattle.front.specs.declared.Heard.{Heard}
+use Rattle.board_feeding.specs.Feeding.{fromLine, got, nobody, fed}
+use Rattle.board_front.specs.declared.Front.{Front}
+use Rattle.board_front.specs.declared.Heard.{Heard}
 
 -- one byte
 unfoldable pub heardBy : Front → ℕ → Heard

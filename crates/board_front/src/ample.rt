@@ -2,7 +2,7 @@
 ghost use mathlib.Core.Path.{_≡_};
 ghost use mathlib.Core.Bool.{true};
 ghost use Prim.Native.Nat.{_+_, _*_, _≤_};
-ghost use Rattle.front.specs.Ample.{Ample};
+ghost use Rattle.board_front.specs.Ample.{Ample};
 use crate::Room;
 
 // Whether an output has five places for each of n values and sixteen more.

@@ -1,6 +1,6 @@
 // Whether there is room for what a piece yields: surely, by the lengths alone, or as hearing it for that alone shows.
 ghost use mathlib.Core.Path.{_≡_};
-ghost use Rattle.front.specs.Fitting.{within, needed, needsOf, leftOver};
+ghost use Rattle.board_front.specs.Fitting.{within, needed, needsOf, leftOver};
 use crate::Front;
 use crate::Heard;
 use crate::Room;

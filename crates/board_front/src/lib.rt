@@ -6,16 +6,16 @@
 // proofs/Onwards shows what one byte more brings, proofs/Rooms when there is room, and proofs/Amply that there is.
 ghost use mathlib.Core.Path.{_≡_};
 ghost use Prim.Native.Nat.{_≤_};
-ghost use Rattle.feeding.specs.Feeding.{Enough};
-ghost use Rattle.front.specs.Hearing.{heardBy};
+ghost use Rattle.board_feeding.specs.Feeding.{Enough};
+ghost use Rattle.board_front.specs.Hearing.{heardBy};
 
 mod ample;
 mod fitting;
 
-use feeding::Shares;
+use board_feeding::Shares;
 pub use fitting::fits;
+use line_receiver::Receiver;
 use links::Links;
-use receiver::Receiver;
 
 pub struct Front {
     pub receiver: Receiver,
@@ -38,16 +38,17 @@ pub struct Room {
     pub requests: usize,
 }
 
-// One byte from the line. It gives no number: `lines` of the crate `pieces` does, and tests its board before it comes
-// here. A broken receiver hears nothing: it and the links come back as they were, with nothing for anybody. Broken links
-// take no value, so that nobody gets anything, while the receiver goes on. It passes on no value above 127.
+// One byte from the line. It gives no number: `lines` of the crate `board_pieces` does, and tests its board before it
+// comes here. A broken receiver hears nothing: it and the links come back as they were, with nothing for anybody.
+// Broken links take no value, so that nobody gets anything, while the receiver goes on. It passes on no value above
+// 127.
 pub fn hear(front: Front, byte: u8) -> Heard
     ensures { λ r. ⌜ (r ≡ heardBy «front» byte) × Enough (r .shares) × (r .asked ≤ 2) ⌝ }
 {
     let receiver = front.receiver;
     let stepped = receiver.step(byte);
     let values = stepped.values;
-    let fed = feeding::feed(front.links, values, stepped.passed);
+    let fed = board_feeding::feed(front.links, values, stepped.passed);
     let shares = fed.shares;
     let request = stepped.request;
     let receiver = stepped.next;

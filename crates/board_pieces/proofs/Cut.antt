@@ -6,20 +6,20 @@ use Prim.Native.Nat.{ℕ, _+_, _-_}
 use native.Mathlib.Omega.{arith}
 use lib.ListN.{length, take, drop, length-append}
 use lib.Seq.{take-append-seam, drop-append-seam, drop-drop}
-use Rattle.wiring.specs.declared.Module.{Module}
-use Rattle.wiring.specs.declared.Module.the-variants.{Screen, Keyboard, Modem, Socket}
-use Rattle.front.specs.declared.Room.{Room}
+use Rattle.links_wiring.specs.declared.Module.{Module}
+use Rattle.links_wiring.specs.declared.Module.the-variants.{Screen, Keyboard, Modem, Socket}
+use Rattle.board_front.specs.declared.Room.{Room}
 use Rattle.board.specs.declared.Board.{Board}
 use Rattle.board.specs.Runs.{run, Outside, InBoard}
 use Rattle.board.proofs.Ranges.{tested}
 use Rattle.board.proofs.Parts.{apart}
-use Rattle.pieces.specs.declared.Answer.the-variants.{Taken}
-use Rattle.pieces.specs.declared.Passage.{Passage}
-use Rattle.pieces.specs.Pieces.{singly, handed, asked, yields, passage, linesOf, isTaken, leftIn}
-use Rattle.pieces.specs.Claims.{wrote, RoomFor}
-use Rattle.pieces.specs.Cuts.{behindIt, secondOf, secondTaken, behindFirst, InTwo}
-use Rattle.pieces.proofs.Numbered.{cut-run, cut-handed, cut-asked}
-use Rattle.pieces.proofs.Taken.{has-room, takes, when-taken, counted}
+use Rattle.board_pieces.specs.declared.Answer.the-variants.{Taken}
+use Rattle.board_pieces.specs.declared.Passage.{Passage}
+use Rattle.board_pieces.specs.Pieces.{singly, handed, asked, yields, passage, linesOf, isTaken, leftIn}
+use Rattle.board_pieces.specs.Claims.{wrote, RoomFor}
+use Rattle.board_pieces.specs.Cuts.{behindIt, secondOf, secondTaken, behindFirst, InTwo}
+use Rattle.board_pieces.proofs.Numbered.{cut-run, cut-handed, cut-asked}
+use Rattle.board_pieces.proofs.Taken.{has-room, takes, when-taken, counted}
 
 -- ---- outputs, one written behind the other
 

@@ -8,13 +8,13 @@ use lib.ListN.{length, take, drop, length-append}
 use lib.Seq.{take-at, length-take-le}
 use Rattle.values.specs.Large.{Values}
 use Rattle.values.proofs.Found.{values-tail}
-use Rattle.page.specs.declared.Screen.{Screen as Page}
-use Rattle.page.specs.Ranges.{InScreen}
+use Rattle.screen_page.specs.declared.Screen.{Screen as Page}
+use Rattle.screen_page.specs.Ranges.{InScreen}
 use Rattle.screen.specs.declared.Ran.{Ran}
 use Rattle.screen.specs.Calls.{ran}
 use Rattle.screen.proofs.Given.{ran-none, run-parts}
-use Rattle.pieces.specs.Outputs.{written}
-use Rattle.pieces.proofs.Written.{length-written}
+use Rattle.board_pieces.specs.Outputs.{written}
+use Rattle.board_pieces.proofs.Written.{length-written}
 
 -- of all that the screen is sent, t has been shown a beginning, and g has the rest: its first n
 pub record Shown (s : Page) (all : List ℕ) (t : Page) (g : List ℕ) (n : ℕ) : Type 0 where

@@ -7,20 +7,20 @@ use lib.Dec.{leb}
 use lib.ListN.{length}
 use borrow.Author.Tests.{le-leb, lt-leb}
 use Rattle.numbers.specs.Numbers.{numberOf, Told}
-use Rattle.receiver.specs.declared.Receiver.{Receiver}
-use Rattle.turns.specs.Notes.{notesOf}
-use Rattle.turns.proofs.Held.{notes-append}
-use Rattle.front.specs.declared.Room.{Room}
-use Rattle.front.specs.Fitting.{within}
+use Rattle.line_receiver.specs.declared.Receiver.{Receiver}
+use Rattle.line_turns.specs.Notes.{notesOf}
+use Rattle.line_turns.proofs.Held.{notes-append}
+use Rattle.board_front.specs.declared.Room.{Room}
+use Rattle.board_front.specs.Fitting.{within}
 use Rattle.board.specs.declared.Board.{Board}
 use Rattle.board.specs.Boards.{inRange}
 use Rattle.board.specs.Runs.{run, InBoard}
-use Rattle.pieces.specs.declared.Answer.the-variants.{NoRoom, Broken}
-use Rattle.pieces.specs.declared.Passage.{Passage}
-use Rattle.pieces.specs.Pieces.{told, singly, yields, refused, linesOf, isTaken}
-use Rattle.pieces.specs.Noted.{noted, notedOf, notedTold, isNoted}
-use Rattle.pieces.proofs.Numbered.{numbers}
-use Rattle.pieces.proofs.Single.{receiver-is}
+use Rattle.board_pieces.specs.declared.Answer.the-variants.{NoRoom, Broken}
+use Rattle.board_pieces.specs.declared.Passage.{Passage}
+use Rattle.board_pieces.specs.Pieces.{told, singly, yields, refused, linesOf, isTaken}
+use Rattle.board_pieces.specs.Noted.{noted, notedOf, notedTold, isNoted}
+use Rattle.board_pieces.proofs.Numbered.{numbers}
+use Rattle.board_pieces.proofs.Single.{receiver-is}
 
 -- the number of a broken state, or of no room
 abbrev toldIf : Bool → Bool → Told

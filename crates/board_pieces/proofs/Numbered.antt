@@ -5,17 +5,17 @@ use mathlib.Core.List.{List, [], _∷_, _++_, append-assoc}
 use Prim.Native.Nat.{ℕ}
 use Rattle.laws.proofs.Computed.{fails}
 use Rattle.numbers.specs.Numbers.{numberOf}
-use Rattle.wiring.specs.declared.Module.{Module}
+use Rattle.links_wiring.specs.declared.Module.{Module}
 use Rattle.board.specs.declared.Board.{Board}
 use Rattle.board.specs.Boards.{inRange}
 use Rattle.board.specs.Calls.{atLine}
 use Rattle.board.specs.Runs.{run, outTo, request, handedTo, requests}
-use Rattle.pieces.specs.declared.Answer.{Answer}
-use Rattle.pieces.specs.declared.Answer.the-variants.{Taken, NoRoom, Broken}
-use Rattle.front.specs.declared.Room.{Room}
-use Rattle.front.specs.Fitting.{within}
-use Rattle.pieces.specs.Pieces.{told, singly, handed, asked, yields, passage, refused, linesOf, isTaken}
-use Rattle.pieces.specs.Pieces.{linesTold}
+use Rattle.board_pieces.specs.declared.Answer.{Answer}
+use Rattle.board_pieces.specs.declared.Answer.the-variants.{Taken, NoRoom, Broken}
+use Rattle.board_front.specs.declared.Room.{Room}
+use Rattle.board_front.specs.Fitting.{within}
+use Rattle.board_pieces.specs.Pieces.{told, singly, handed, asked, yields, passage, refused, linesOf, isTaken}
+use Rattle.board_pieces.specs.Pieces.{linesTold}
 
 answerBy : Bool → Bool → Answer
 answerBy i w = cond i (cond w Taken NoRoom) Broken

@@ -5,27 +5,27 @@ use mathlib.Core.List.{List, [], _∷_, _++_, map}
 use Prim.Native.Nat.{ℕ}
 use lib.ListN.{take}
 use Rattle.values.specs.Large.{Values}
-use Rattle.wiring.specs.declared.Module.the-variants.{Screen, Modem}
-use Rattle.hearing.specs.declared.Unfinished.the-variants.{Free}
-use Rattle.hearing.specs.Phrases.{allFlowing, Phrased}
-use Rattle.receiver.specs.declared.Stepped.{Stepped}
-use Rattle.receiver.specs.Runs.{byte, on}
-use Rattle.receiver.specs.Line.{madeOf, filled, Sending}
-use Rattle.receiver.proofs.Kept.{on-afresh}
-use Rattle.ears.specs.declared.Ear.the-variants.{Modem as modem}
+use Rattle.links_wiring.specs.declared.Module.the-variants.{Screen, Modem}
+use Rattle.links_hearing.specs.declared.Unfinished.the-variants.{Free}
+use Rattle.links_hearing.specs.Phrases.{allFlowing, Phrased}
+use Rattle.line_receiver.specs.declared.Stepped.{Stepped}
+use Rattle.line_receiver.specs.Runs.{byte, on}
+use Rattle.line_receiver.specs.Line.{madeOf, filled, Sending}
+use Rattle.line_receiver.proofs.Kept.{on-afresh}
+use Rattle.links_ears.specs.declared.Ear.the-variants.{Modem as modem}
 use Rattle.links.specs.States.{unfinished}
 use Rattle.links.specs.Runs.{Throughout}
-use Rattle.feeding.specs.Feeding.{fromLine}
+use Rattle.board_feeding.specs.Feeding.{fromLine}
 use Rattle.screen.specs.Calls.{ran}
-use Rattle.front.specs.declared.Room.{Room}
+use Rattle.board_front.specs.declared.Room.{Room}
 use Rattle.board.specs.declared.Board.{Board}
 use Rattle.board.specs.Calls.{following, switchedOn}
 use Rattle.board.specs.Runs.{Event, front, run, request, requests, InBoard}
 use Rattle.board.proofs.Ranges.{tested}
 use Rattle.board.proofs.Shown.{page-shown}
-use Rattle.pieces.specs.declared.Passage.{Passage}
-use Rattle.pieces.specs.Pieces.{singly, asked, linesOf, isTaken}
-use Rattle.pieces.proofs.Taken.{when-taken}
+use Rattle.board_pieces.specs.declared.Passage.{Passage}
+use Rattle.board_pieces.specs.Pieces.{singly, asked, linesOf, isTaken}
+use Rattle.board_pieces.proofs.Taken.{when-taken}
 
 each-byte : (bs : List ℕ) → singly bs ≡ map front (map byte bs)
 each-byte [] = refl

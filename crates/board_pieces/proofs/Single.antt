@@ -3,15 +3,15 @@ use mathlib.Core.Path.{_≡_, refl, sym, ap, ap₂, _∙_}
 use mathlib.Core.Bool.{Bool, true, false, cond, _&&_}
 use mathlib.Core.List.{List, [], _∷_, _++_}
 use Prim.Native.Nat.{ℕ}
-use Rattle.wiring.specs.declared.Module.{Module}
-use Rattle.wiring.specs.declared.Module.the-variants.{Screen, Keyboard, Modem, Socket}
-use Rattle.receiver.specs.declared.Receiver.{Receiver}
-use Rattle.receiver.specs.Calls.{stepped}
-use Rattle.receiver.specs.Runs.{Event as Heard, byte, run as receiverRun, sentBy, sent, allAsked}
+use Rattle.links_wiring.specs.declared.Module.{Module}
+use Rattle.links_wiring.specs.declared.Module.the-variants.{Screen, Keyboard, Modem, Socket}
+use Rattle.line_receiver.specs.declared.Receiver.{Receiver}
+use Rattle.line_receiver.specs.Calls.{stepped}
+use Rattle.line_receiver.specs.Runs.{Event as Heard, byte, run as receiverRun, sentBy, sent, allAsked}
 use Rattle.links.specs.declared.Links.{Links}
 use Rattle.links.specs.Runs.{Call, run as linksRun}
-use Rattle.feeding.specs.Feeding.{fromLine, got}
-use Rattle.page.specs.declared.Screen.{Screen as Page}
+use Rattle.board_feeding.specs.Feeding.{fromLine, got}
+use Rattle.screen_page.specs.declared.Screen.{Screen as Page}
 use Rattle.screen.specs.Calls.{ran}
 use Rattle.board.specs.declared.Board.{Board}
 use Rattle.board.specs.Boards.{inRange}
@@ -19,12 +19,12 @@ use Rattle.links.specs.declared.Answer.the-variants.{Taken as TakenByLinks}
 use Rattle.board.specs.Calls.{joined, following, atLine}
 use Rattle.board.specs.Runs.{run, heardIn, callsIn, Outside, InBoard}
 use Rattle.board.proofs.Parts.{apart}
-use Rattle.pieces.specs.declared.Answer.the-variants.{Taken, NoRoom, Broken}
-use Rattle.front.specs.declared.Room.{Room}
-use Rattle.front.specs.Hearing.{heardBy, bytes, calls, toEach, asks}
-use Rattle.front.specs.Fitting.{within, needed}
-use Rattle.pieces.specs.Pieces.{singly, handed, asked, yields, passage, refused, linesOf, isTaken}
-use Rattle.pieces.specs.Playing.{frontOf, heardWhole, played}
+use Rattle.board_pieces.specs.declared.Answer.the-variants.{Taken, NoRoom, Broken}
+use Rattle.board_front.specs.declared.Room.{Room}
+use Rattle.board_front.specs.Hearing.{heardBy, bytes, calls, toEach, asks}
+use Rattle.board_front.specs.Fitting.{within, needed}
+use Rattle.board_pieces.specs.Pieces.{singly, handed, asked, yields, passage, refused, linesOf, isTaken}
+use Rattle.board_pieces.specs.Playing.{frontOf, heardWhole, played}
 
 heard-singly : (xs : List ℕ) → heardIn (singly xs) ≡ bytes xs
 heard-singly [] = refl

@@ -6,26 +6,26 @@ use Prim.Native.Nat.{ℕ, _+_, _-_, _≤_}
 use native.Mathlib.Omega.{arith}
 use lib.ListN.{length, take, drop, replicate, length-append}
 use lib.Seq.{take-add, length-take-le}
-use Rattle.wiring.specs.declared.Module.{Module}
-use Rattle.wiring.specs.declared.Module.the-variants.{Keyboard, Modem, Socket}
-use Rattle.receiver.specs.declared.Receiver.{Receiver}
+use Rattle.links_wiring.specs.declared.Module.{Module}
+use Rattle.links_wiring.specs.declared.Module.the-variants.{Keyboard, Modem, Socket}
+use Rattle.line_receiver.specs.declared.Receiver.{Receiver}
 use Rattle.links.specs.declared.Links.{Links}
 use Rattle.links.specs.Runs.{Call, run as linksRun}
-use Rattle.feeding.specs.Feeding.{fromLine, got}
-use Rattle.front.specs.declared.Front.{Front}
-use Rattle.front.specs.declared.Room.{Room}
-use Rattle.front.specs.Hearing.{bytes, calls, behind, toEach, asks}
-use Rattle.front.specs.Fitting.{roomIn, needed}
-use Rattle.front.proofs.Onwards.{calls-are, behind-append, each-append, asks-append}
-use Rattle.front.proofs.Rooms.{Fits, beginning}
-use Rattle.turns.specs.declared.Turn.{Turn}
-use Rattle.turns.specs.Notes.{notesOf}
-use Rattle.turns.specs.Turns.{TakenSingly}
-use Rattle.turns.proofs.Held.{notes-append}
-use Rattle.turns.proofs.Steps.{notes-many}
-use Rattle.pieces.specs.declared.passing.Onward.{Onward}
-use Rattle.pieces.specs.Outputs.{written, sentTo, onward}
-use Rattle.pieces.proofs.Written.{begins, as-long, further}
+use Rattle.board_feeding.specs.Feeding.{fromLine, got}
+use Rattle.board_front.specs.declared.Front.{Front}
+use Rattle.board_front.specs.declared.Room.{Room}
+use Rattle.board_front.specs.Hearing.{bytes, calls, behind, toEach, asks}
+use Rattle.board_front.specs.Fitting.{roomIn, needed}
+use Rattle.board_front.proofs.Onwards.{calls-are, behind-append, each-append, asks-append}
+use Rattle.board_front.proofs.Rooms.{Fits, beginning}
+use Rattle.line_turns.specs.declared.Turn.{Turn}
+use Rattle.line_turns.specs.Notes.{notesOf}
+use Rattle.line_turns.specs.Turns.{TakenSingly}
+use Rattle.line_turns.proofs.Held.{notes-append}
+use Rattle.line_turns.proofs.Steps.{notes-many}
+use Rattle.board_pieces.specs.declared.passing.Onward.{Onward}
+use Rattle.board_pieces.specs.Outputs.{written, sentTo, onward}
+use Rattle.board_pieces.proofs.Written.{begins, as-long, further}
 
 -- what is heard and written when i bytes are played
 pub record Played (f : Front) (xs k m p q : List ℕ) (i : ℕ) (g : Front) (n : Room) (k′ m′ p′ q′ : List ℕ)

@@ -7,23 +7,23 @@ use native.Mathlib.Numerals.{add-one, unary-clauses}
 use native.Mathlib.Omega.{arith}
 use lib.ListN.{length, take, drop, getD, length-append}
 use lib.Seq.{take-add, take-suc}
-use Rattle.wiring.specs.declared.Module.{Module}
-use Rattle.wiring.specs.declared.Module.the-variants.{Screen, Keyboard, Modem, Socket}
-use Rattle.wiring.specs.Tables.{reaches}
-use Rattle.ears.specs.declared.Ear.the-variants.{Modem as modem}
+use Rattle.links_wiring.specs.declared.Module.{Module}
+use Rattle.links_wiring.specs.declared.Module.the-variants.{Screen, Keyboard, Modem, Socket}
+use Rattle.links_wiring.specs.Tables.{reaches}
+use Rattle.links_ears.specs.declared.Ear.the-variants.{Modem as modem}
 use Rattle.links.specs.declared.Links.{Links}
 use Rattle.links.specs.Runs.{value, run}
-use Rattle.feeding.specs.declared.Fed.{Fed}
-use Rattle.feeding.specs.declared.Outlet.{Outlet}
-use Rattle.feeding.specs.Feeding.{fromLine, got, contents, outlet, sharesOf, fed}
-use Rattle.feeding.specs.Plain.{arePlain}
-use Rattle.feeding.proofs.Outlets.{held}
-use Rattle.feeding.proofs.Passed.{links-stay, as-they-are}
-use Rattle.feeding.proofs.Suffices.{run-append, got-append}
-use Rattle.front.specs.declared.Room.{Room}
-use Rattle.pieces.specs.declared.passing.Onward.{Onward}
-use Rattle.pieces.specs.Outputs.{written, sentTo, onward}
-use Rattle.pieces.proofs.Written.{length-written, twice}
+use Rattle.board_feeding.specs.declared.Fed.{Fed}
+use Rattle.board_feeding.specs.declared.Outlet.{Outlet}
+use Rattle.board_feeding.specs.Feeding.{fromLine, got, contents, outlet, sharesOf, fed}
+use Rattle.board_feeding.specs.Plain.{arePlain}
+use Rattle.board_feeding.proofs.Outlets.{held}
+use Rattle.board_feeding.proofs.Passed.{links-stay, as-they-are}
+use Rattle.board_feeding.proofs.Suffices.{run-append, got-append}
+use Rattle.board_front.specs.declared.Room.{Room}
+use Rattle.board_pieces.specs.declared.passing.Onward.{Onward}
+use Rattle.board_pieces.specs.Outputs.{written, sentTo, onward}
+use Rattle.board_pieces.proofs.Written.{length-written, twice}
 
 abbrev pub behindAll : Links → ℕ → ℕ → ℕ → ℕ → ℕ → Onward
 behindAll l g k m p q =

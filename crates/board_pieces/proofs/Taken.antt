@@ -6,26 +6,26 @@ use Prim.Native.Nat.{ℕ}
 use lib.ListN.{length, take, drop}
 use lib.Seq.{take-append-seam, drop-append-seam}
 use native.Mathlib.Omega.{arith}
-use Rattle.receiver.proofs.Ranges.{count-in}
+use Rattle.line_receiver.proofs.Ranges.{count-in}
 use Rattle.laws.proofs.Computed.{and-left, and-right, holds, is-true, fails}
-use Rattle.wiring.specs.declared.Module.{Module}
-use Rattle.wiring.specs.declared.Module.the-variants.{Screen, Keyboard, Modem, Socket}
-use Rattle.front.specs.declared.Room.{Room}
-use Rattle.front.specs.Fitting.{within}
-use Rattle.front.specs.Ample.{Ample}
-use Rattle.front.proofs.Amply.{amply}
-use Rattle.front.proofs.Rooms.{tested as fits-tested, passes}
+use Rattle.links_wiring.specs.declared.Module.{Module}
+use Rattle.links_wiring.specs.declared.Module.the-variants.{Screen, Keyboard, Modem, Socket}
+use Rattle.board_front.specs.declared.Room.{Room}
+use Rattle.board_front.specs.Fitting.{within}
+use Rattle.board_front.specs.Ample.{Ample}
+use Rattle.board_front.proofs.Amply.{amply}
+use Rattle.board_front.proofs.Rooms.{tested as fits-tested, passes}
 use Rattle.board.specs.declared.Board.{Board}
 use Rattle.board.specs.Boards.{inRange}
 use Rattle.board.specs.Runs.{run, Outside, InBoard}
 use Rattle.board.proofs.Ranges.{tested}
-use Rattle.pieces.specs.declared.Answer.the-variants.{Taken, NoRoom, Broken}
-use Rattle.pieces.specs.declared.Passage.{Passage}
-use Rattle.pieces.specs.Pieces.{singly, handed, yields, passage, refused, linesOf, isTaken, leftIn}
-use Rattle.pieces.specs.Claims.{wrote, TakenWhole, NothingTaken, RoomFor}
-use Rattle.pieces.specs.Playing.{frontOf}
-use Rattle.pieces.proofs.Numbered.{kept}
-use Rattle.pieces.proofs.Single.{is-taken}
+use Rattle.board_pieces.specs.declared.Answer.the-variants.{Taken, NoRoom, Broken}
+use Rattle.board_pieces.specs.declared.Passage.{Passage}
+use Rattle.board_pieces.specs.Pieces.{singly, handed, yields, passage, refused, linesOf, isTaken, leftIn}
+use Rattle.board_pieces.specs.Claims.{wrote, TakenWhole, NothingTaken, RoomFor}
+use Rattle.board_pieces.specs.Playing.{frontOf}
+use Rattle.board_pieces.proofs.Numbered.{kept}
+use Rattle.board_pieces.proofs.Single.{is-taken}
 
 -- ---- a piece is taken exactly where the board is in range and each output has room
 

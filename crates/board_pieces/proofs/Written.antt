@@ -6,7 +6,7 @@ use native.Mathlib.Nat.{not-suc-le-zero, le-of-suc-le-suc}
 use native.Mathlib.Omega.{arith}
 use lib.ListN.{length, take, drop, getD, replicate, length-append, length-drop}
 use lib.Seq.{paste, paste-zero, take-at, take-append-seam, drop-append-add, drop-drop, length-take-le}
-use Rattle.pieces.specs.Outputs.{written}
+use Rattle.board_pieces.specs.Outputs.{written}
 
 -- bytes at the beginning of an output
 abbrev pub begins : List ℕ → List ℕ → List ℕ

@@ -3,13 +3,13 @@ use mathlib.Core.Path.{_≡_}
 use mathlib.Core.List.{List}
 use Prim.Native.Nat.{ℕ, _≤_}
 use lib.ListN.{length, take, drop}
-use Rattle.wiring.specs.declared.Module.{Module}
-use Rattle.wiring.specs.declared.Module.the-variants.{Screen, Keyboard, Modem, Socket}
-use Rattle.front.specs.declared.Room.{Room}
+use Rattle.links_wiring.specs.declared.Module.{Module}
+use Rattle.links_wiring.specs.declared.Module.the-variants.{Screen, Keyboard, Modem, Socket}
+use Rattle.board_front.specs.declared.Room.{Room}
 use Rattle.board.specs.declared.Board.{Board}
 use Rattle.board.specs.Runs.{run, Outside}
-use Rattle.pieces.specs.declared.Passage.{Passage}
-use Rattle.pieces.specs.Pieces.{singly, handed, asked, linesOf, isTaken, leftIn}
+use Rattle.board_pieces.specs.declared.Passage.{Passage}
+use Rattle.board_pieces.specs.Pieces.{singly, handed, asked, linesOf, isTaken, leftIn}
 
 -- the bytes that a call wrote for a module
 abbrev pub wrote : Module → Passage → ℕ

@@ -4,14 +4,14 @@ use mathlib.Core.Bool.{Bool, true}
 use mathlib.Core.List.{List, _++_}
 use Prim.Native.Nat.{ℕ, _+_, _-_}
 use lib.ListN.{take, drop}
-use Rattle.wiring.specs.declared.Module.{Module}
-use Rattle.front.specs.declared.Room.{Room}
+use Rattle.links_wiring.specs.declared.Module.{Module}
+use Rattle.board_front.specs.declared.Room.{Room}
 use Rattle.board.specs.declared.Board.{Board}
 use Rattle.board.specs.Runs.{Outside}
-use Rattle.pieces.specs.declared.Answer.the-variants.{Taken}
-use Rattle.pieces.specs.declared.Passage.{Passage}
-use Rattle.pieces.specs.Pieces.{handed, asked, linesOf, isTaken, leftIn}
-use Rattle.pieces.specs.Claims.{wrote}
+use Rattle.board_pieces.specs.declared.Answer.the-variants.{Taken}
+use Rattle.board_pieces.specs.declared.Passage.{Passage}
+use Rattle.board_pieces.specs.Pieces.{handed, asked, linesOf, isTaken, leftIn}
+use Rattle.board_pieces.specs.Claims.{wrote}
 
 -- the room behind what a call wrote
 abbrev pub behindIt : Passage → Room → Room

@@ -5,14 +5,14 @@ use Prim.Native.Nat.{ℕ}
 use lib.Dec.{leb}
 use lib.ListN.{length}
 use Rattle.numbers.specs.Numbers.{Conditions, numberOf, Told}
-use Rattle.turns.specs.Notes.{notesOf}
-use Rattle.front.specs.declared.Room.{Room}
-use Rattle.front.specs.Fitting.{within}
+use Rattle.line_turns.specs.Notes.{notesOf}
+use Rattle.board_front.specs.declared.Room.{Room}
+use Rattle.board_front.specs.Fitting.{within}
 use Rattle.board.specs.declared.Board.{Board}
 use Rattle.board.specs.Boards.{inRange}
-use Rattle.pieces.specs.declared.Answer.the-variants.{NoRoom, Broken}
-use Rattle.pieces.specs.declared.Passage.{Passage}
-use Rattle.pieces.specs.Pieces.{yields, refused, linesOf, isTaken}
+use Rattle.board_pieces.specs.declared.Answer.the-variants.{NoRoom, Broken}
+use Rattle.board_pieces.specs.declared.Passage.{Passage}
+use Rattle.board_pieces.specs.Pieces.{yields, refused, linesOf, isTaken}
 
 -- the notes: what each byte was to the board's receiver
 abbrev pub noted : Board → List ℕ → List ℕ

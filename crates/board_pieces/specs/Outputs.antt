@@ -2,13 +2,13 @@
 use mathlib.Core.List.{List, _++_}
 use Prim.Native.Nat.{ℕ, _+_}
 use lib.ListN.{length, take, drop}
-use Rattle.wiring.specs.declared.Module.{Module}
-use Rattle.wiring.specs.declared.Module.the-variants.{Screen, Keyboard, Modem, Socket}
+use Rattle.links_wiring.specs.declared.Module.{Module}
+use Rattle.links_wiring.specs.declared.Module.the-variants.{Screen, Keyboard, Modem, Socket}
 use Rattle.links.specs.declared.Links.{Links}
 use Rattle.links.specs.Runs.{run}
-use Rattle.feeding.specs.Feeding.{fromLine, got}
-use Rattle.front.specs.declared.Room.{Room}
-use Rattle.pieces.specs.declared.passing.Onward.{Onward}
+use Rattle.board_feeding.specs.Feeding.{fromLine, got}
+use Rattle.board_front.specs.declared.Room.{Room}
+use Rattle.board_pieces.specs.declared.passing.Onward.{Onward}
 
 -- bytes at a place of an output, which is as it was elsewhere
 abbrev pub written : List ℕ → ℕ → List ℕ → List ℕ

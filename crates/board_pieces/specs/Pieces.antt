@@ -5,17 +5,17 @@ use mathlib.Core.List.{List, [], _∷_, _++_}
 use Prim.Native.Nat.{ℕ}
 use lib.ListN.{length, drop}
 use Rattle.numbers.specs.Numbers.{Conditions, numberOf, Told}
-use Rattle.wiring.specs.declared.Module.{Module}
-use Rattle.wiring.specs.declared.Module.the-variants.{Keyboard, Modem, Socket}
-use Rattle.receiver.specs.Runs.{byte}
-use Rattle.front.specs.declared.Room.{Room}
-use Rattle.front.specs.Fitting.{roomIn, within}
+use Rattle.links_wiring.specs.declared.Module.{Module}
+use Rattle.links_wiring.specs.declared.Module.the-variants.{Keyboard, Modem, Socket}
+use Rattle.line_receiver.specs.Runs.{byte}
+use Rattle.board_front.specs.declared.Room.{Room}
+use Rattle.board_front.specs.Fitting.{roomIn, within}
 use Rattle.board.specs.declared.Board.{Board}
 use Rattle.board.specs.Boards.{inRange}
 use Rattle.board.specs.Runs.{Event, front, run, handedTo, requests}
-use Rattle.pieces.specs.declared.Answer.{Answer}
-use Rattle.pieces.specs.declared.Answer.the-variants.{Taken, NoRoom, Broken}
-use Rattle.pieces.specs.declared.Passage.{Passage}
+use Rattle.board_pieces.specs.declared.Answer.{Answer}
+use Rattle.board_pieces.specs.declared.Answer.the-variants.{Taken, NoRoom, Broken}
+use Rattle.board_pieces.specs.declared.Passage.{Passage}
 
 -- the number of each answer
 abbrev pub told : Answer → Told

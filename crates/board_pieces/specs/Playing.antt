@@ -1,15 +1,15 @@
 -- A board hears a piece for which there is room. Assumes nothing.
 use mathlib.Core.List.{List}
 use Prim.Native.Nat.{ℕ}
-use Rattle.wiring.specs.declared.Module.the-variants.{Screen}
+use Rattle.links_wiring.specs.declared.Module.the-variants.{Screen}
 use Rattle.screen.specs.Calls.{ran}
-use Rattle.front.specs.declared.Front.{Front}
-use Rattle.front.specs.Hearing.{behind, toEach}
-use Rattle.front.specs.Fitting.{needed}
+use Rattle.board_front.specs.declared.Front.{Front}
+use Rattle.board_front.specs.Hearing.{behind, toEach}
+use Rattle.board_front.specs.Fitting.{needed}
 use Rattle.board.specs.declared.Board.{Board}
-use Rattle.pieces.specs.declared.Answer.the-variants.{Taken}
-use Rattle.pieces.specs.declared.Passage.{Passage}
-use Rattle.pieces.specs.Pieces.{passage}
+use Rattle.board_pieces.specs.declared.Answer.the-variants.{Taken}
+use Rattle.board_pieces.specs.declared.Passage.{Passage}
+use Rattle.board_pieces.specs.Pieces.{passage}
 
 abbrev pub frontOf : Board → Front
 frontOf b = record { receiver = b .receiver; links = b .links }

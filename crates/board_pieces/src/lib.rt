@@ -2,25 +2,25 @@
 //
 // `lines` does what single calls of `line` would do one after the other, with the ranges tested once. Where an output
 // lacks room for what the whole piece yields, nothing is taken and no output is touched: so where that is not certain
-// beforehand, the piece is heard for it first (crate `front`), and then for good (playing.rt), in turns of many bytes
-// (crate `turns`). `lines_noted` hands out besides what each byte was to the receiver, for a night book. specs/Pieces
-// says what both promise; proofs/ shows that hearing turn by turn comes to that.
+// beforehand, the piece is heard for it first (crate `board_front`), and then for good (playing.rt), in turns of many
+// bytes (crate `line_turns`). `lines_noted` hands out besides what each byte was to the receiver, for a night book.
+// specs/Pieces says what both promise; proofs/ shows that hearing turn by turn comes to that.
 ghost use mathlib.Core.Path.{_≡_};
 ghost use mathlib.Core.Bool.{true, _&&_};
 ghost use Prim.Native.Nat.{_≤_};
 ghost use lib.ListN.{length};
-ghost use Rattle.wiring.specs.declared.Module.the-variants.{Keyboard, Modem, Socket};
-ghost use Rattle.front.specs.Fitting.{roomIn};
-ghost use Rattle.pieces.specs.Pieces.{refused, linesOf, isTaken, handed, asked, leftIn};
-ghost use Rattle.pieces.specs.Noted.{noted, notedOf, isNoted};
+ghost use Rattle.links_wiring.specs.declared.Module.the-variants.{Keyboard, Modem, Socket};
+ghost use Rattle.board_front.specs.Fitting.{roomIn};
+ghost use Rattle.board_pieces.specs.Pieces.{refused, linesOf, isTaken, handed, asked, leftIn};
+ghost use Rattle.board_pieces.specs.Noted.{noted, notedOf, isNoted};
 
 mod outputs;
 mod passing;
 mod playing;
 
 use board::Board;
-use front::Front;
-use front::Room;
+use board_front::Front;
+use board_front::Room;
 use playing::play;
 
 // What a call answers: the paper's 0, 4 and 5.
@@ -88,7 +88,7 @@ fn hear_piece(
         let receiver = board.receiver;
         let links = board.links;
         let front = Front { receiver, links };
-        if front::fits(front, piece, room) {
+        if board_front::fits(front, piece, room) {
             return play(
                 board,
                 piece,
@@ -138,7 +138,7 @@ pub fn lines(
 }
 
 // The same, with a note on each byte at its place of `notes`: what it was to the receiver (specs/Notes of the crate
-// `turns`). Where there are fewer places than bytes it lacks room too.
+// `line_turns`). Where there are fewer places than bytes it lacks room too.
 pub fn lines_noted(
     board: Board,
     piece: &[u8],

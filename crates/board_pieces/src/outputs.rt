@@ -4,7 +4,7 @@ ghost use mathlib.Core.Bool.{true, cond};
 ghost use mathlib.Core.List.{[], _∷_, _++_};
 ghost use Prim.Native.Nat.{_+_, _-_, _≤_, _<_};
 ghost use lib.ListN.{length, replicate};
-ghost use Rattle.pieces.specs.Outputs.{written};
+ghost use Rattle.board_pieces.specs.Outputs.{written};
 
 // Bytes at a place of an output, and the place behind them.
 pub(crate) fn put(out: &mut [u8], at: usize, bytes: &[u8]) -> usize

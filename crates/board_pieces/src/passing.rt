@@ -4,14 +4,14 @@ ghost use mathlib.Core.Bool.{true};
 ghost use mathlib.Core.List.{[], _∷_};
 ghost use Prim.Native.Nat.{_+_, _≤_};
 ghost use lib.ListN.{length};
-ghost use Rattle.feeding.specs.Feeding.{contents};
-ghost use Rattle.feeding.specs.Plain.{arePlain};
-ghost use Rattle.wiring.specs.declared.Module.the-variants.{Screen, Keyboard, Modem, Socket};
-ghost use Rattle.pieces.specs.Outputs.{written, sentTo, onward};
+ghost use Rattle.board_feeding.specs.Feeding.{contents};
+ghost use Rattle.board_feeding.specs.Plain.{arePlain};
+ghost use Rattle.links_wiring.specs.declared.Module.the-variants.{Screen, Keyboard, Modem, Socket};
+ghost use Rattle.board_pieces.specs.Outputs.{written, sentTo, onward};
 use crate::outputs::put;
 use crate::outputs::put_where;
-use feeding::Outlet;
-use front::Room;
+use board_feeding::Outlet;
+use board_front::Room;
 use links::Links;
 
 // The links behind some values, and what is written then: for the screen, and to each output.
@@ -105,7 +105,7 @@ fn pass_fed(
     ensures port { λ _. ⌜ now (socket .exit)
         ≡ written (now (socket .entry)) (used .socket) (sentTo Socket links values passed) ⌝ }
 {
-    let fed = feeding::feed(links, values, passed);
+    let fed = board_feeding::feed(links, values, passed);
     let shares = fed.shares;
     let shown = put_share(gathered, filled, shares.screen);
     let keys = put_share(keyboard, used.keyboard, shares.keyboard);
@@ -151,7 +151,7 @@ fn pass_one(
 {
     let mut one = [0u8; 15];
     one[0] = value;
-    if feeding::are_plain(links, one) {
+    if board_feeding::are_plain(links, one) {
         return pass_plain(
             links,
             one,
@@ -254,7 +254,7 @@ pub(crate) fn pass_on(
     ensures port { λ _. ⌜ now (socket .exit)
         ≡ written (now (socket .entry)) (used .socket) (sentTo Socket links values passed) ⌝ }
 {
-    if feeding::are_plain(links, values) {
+    if board_feeding::are_plain(links, values) {
         return pass_plain(
             links,
             values,

@@ -1,25 +1,25 @@
 // A piece heard for good: what the links send to the screen is gathered and written there, and the rest to the outputs.
 ghost use mathlib.Core.Path.{_≡_};
 ghost use mathlib.Core.Bool.{true};
-ghost use Rattle.wiring.specs.declared.Module.the-variants.{Keyboard, Modem, Socket};
+ghost use Rattle.links_wiring.specs.declared.Module.the-variants.{Keyboard, Modem, Socket};
 ghost use Prim.Native.Nat.{_≤_};
 ghost use lib.ListN.{length, take};
-ghost use Rattle.page.specs.Ranges.{InScreen};
+ghost use Rattle.screen_page.specs.Ranges.{InScreen};
 ghost use Rattle.screen.specs.Calls.{ran};
-ghost use Rattle.front.specs.Hearing.{toEach, asks};
-ghost use Rattle.front.specs.Fitting.{within, roomIn, needed};
-ghost use Rattle.turns.specs.Notes.{notesOf};
-ghost use Rattle.pieces.specs.Pieces.{leftIn};
-ghost use Rattle.pieces.specs.Playing.{frontOf, played};
+ghost use Rattle.board_front.specs.Hearing.{toEach, asks};
+ghost use Rattle.board_front.specs.Fitting.{within, roomIn, needed};
+ghost use Rattle.line_turns.specs.Notes.{notesOf};
+ghost use Rattle.board_pieces.specs.Pieces.{leftIn};
+ghost use Rattle.board_pieces.specs.Playing.{frontOf, played};
 use crate::Answer;
 use crate::Passage;
 use crate::outputs::note;
 use crate::outputs::put;
 use crate::passing::pass_on;
 use board::Board;
-use front::Room;
-use page::Screen;
-use turns::take_turn;
+use board_front::Room;
+use line_turns::take_turn;
+use screen_page::Screen;
 
 // As many values as are gathered for the screen before it is given them.
 const GATHERED: usize = 4096;

@@ -2,19 +2,19 @@
 use mathlib.Core.Path.{refl}
 use mathlib.Core.List.{List, [], _∷_, _++_}
 use Rattle.values.specs.Large.{firstLarge}
-use Rattle.division.specs.Division.{lowBits, bits, reduce, divide, checkBits}
-use Rattle.parity.specs.Parity.{ones, even, allEven, withParity}
-use Rattle.validity.specs.Block.{codeBits, remainder, valid}
-use Rattle.validity.specs.Changed.{flip}
-use Rattle.maker.specs.Making.{useful, sealed, blockOf}
-use Rattle.reader.specs.Judging.{tryFrom, verdict, left, handed}
-use Rattle.cells.specs.Within.{goodCharacter}
-use Rattle.sheet.specs.Clearing.{cleared}
-use Rattle.sheet.specs.Within.{allGood}
-use Rattle.pen.specs.Pens.{goodSpot, inRange as penInRange}
-use Rattle.planning.specs.Obeying.{gone, obeyed}
-use Rattle.page.specs.Pages.{freshScreen}
-use Rattle.page.specs.Ranges.{inRange, broken}
+use Rattle.block_division.specs.Division.{lowBits, bits, reduce, divide, checkBits}
+use Rattle.block_parity.specs.Parity.{ones, even, allEven, withParity}
+use Rattle.block_validity.specs.Block.{codeBits, remainder, valid}
+use Rattle.block_validity.specs.Changed.{flip}
+use Rattle.block_maker.specs.Making.{useful, sealed, blockOf}
+use Rattle.block_reader.specs.Judging.{tryFrom, verdict, left, handed}
+use Rattle.screen_cells.specs.Within.{goodCharacter}
+use Rattle.screen_sheet.specs.Clearing.{cleared}
+use Rattle.screen_sheet.specs.Within.{allGood}
+use Rattle.screen_pen.specs.Pens.{goodSpot, inRange as penInRange}
+use Rattle.screen_planning.specs.Obeying.{gone, obeyed}
+use Rattle.screen_page.specs.Pages.{freshScreen}
+use Rattle.screen_page.specs.Ranges.{inRange, broken}
 use Rattle.screen.specs.Screens.{written, writtenTimes, applied, advanced, advancedBy}
 use Rattle.screen.specs.Calls.{ran}
 use Rattle.cards.specs.Cards.{Card, EachHolds, blockCards, lineCards, screenCards, cards}

@@ -2,13 +2,13 @@
 use mathlib.Core.Path.{refl}
 use mathlib.Core.List.{_++_}
 use Rattle.values.specs.Large.{firstLarge}
-use Rattle.cells.specs.Within.{goodCharacter}
-use Rattle.sheet.specs.Clearing.{cleared}
-use Rattle.sheet.specs.Within.{allGood}
-use Rattle.pen.specs.Pens.{goodSpot, inRange as penInRange}
-use Rattle.planning.specs.Obeying.{gone, obeyed}
-use Rattle.page.specs.Pages.{freshScreen}
-use Rattle.page.specs.Ranges.{inRange, broken}
+use Rattle.screen_cells.specs.Within.{goodCharacter}
+use Rattle.screen_sheet.specs.Clearing.{cleared}
+use Rattle.screen_sheet.specs.Within.{allGood}
+use Rattle.screen_pen.specs.Pens.{goodSpot, inRange as penInRange}
+use Rattle.screen_planning.specs.Obeying.{gone, obeyed}
+use Rattle.screen_page.specs.Pages.{freshScreen}
+use Rattle.screen_page.specs.Ranges.{inRange, broken}
 use Rattle.screen.specs.Screens.{written, writtenTimes, applied, advanced, advancedBy}
 use Rattle.screen.specs.Calls.{ran}
 use Rattle.cards.specs.Cards.{EachHolds}

@@ -3,20 +3,20 @@ use mathlib.Core.Path.{_≡_}
 use mathlib.Core.List.{List, [], _∷_, _++_, map}
 use Prim.Native.Nat.{ℕ}
 use lib.ListN.{replicate}
-use Rattle.maker.specs.Making.{makeNumber, makeLeft}
-use Rattle.reader.specs.declared.Verdict.{Verdict}
-use Rattle.reader.specs.declared.Verdict.the-variants.{Mended, Repeat}
-use Rattle.reader.specs.Judging.{verdict, left, handed}
-use Rattle.phases.specs.declared.Phase.{Phase}
-use Rattle.phases.specs.declared.Phase.the-variants.{Collecting, Waiting}
-use Rattle.receiver.specs.declared.Judged.the-variants.{Block}
-use Rattle.receiver.specs.States.{newReceiver}
-use Rattle.receiver.specs.Runs.{Event, byte, on, run, Sent, sent}
-use Rattle.receiver.specs.Page.{nothing}
-use Rattle.cells.specs.declared.Cell.{Cell}
-use Rattle.pen.specs.declared.Pen.{Pen}
-use Rattle.page.specs.Pages.{freshScreen}
-use Rattle.answers.specs.declared.Answer.the-variants.{Taken}
+use Rattle.block_maker.specs.Making.{makeNumber, makeLeft}
+use Rattle.block_reader.specs.declared.Verdict.{Verdict}
+use Rattle.block_reader.specs.declared.Verdict.the-variants.{Mended, Repeat}
+use Rattle.block_reader.specs.Judging.{verdict, left, handed}
+use Rattle.line_phases.specs.declared.Phase.{Phase}
+use Rattle.line_phases.specs.declared.Phase.the-variants.{Collecting, Waiting}
+use Rattle.line_receiver.specs.declared.Judged.the-variants.{Block}
+use Rattle.line_receiver.specs.States.{newReceiver}
+use Rattle.line_receiver.specs.Runs.{Event, byte, on, run, Sent, sent}
+use Rattle.line_receiver.specs.Page.{nothing}
+use Rattle.screen_cells.specs.declared.Cell.{Cell}
+use Rattle.screen_pen.specs.declared.Pen.{Pen}
+use Rattle.screen_page.specs.Pages.{freshScreen}
+use Rattle.screen_answers.specs.declared.Answer.the-variants.{Taken}
 use Rattle.screen.specs.Calls.{runsTo, ran}
 use Rattle.cards.specs.Drawn.{ff, rep, us, plain, blanks, rows, start, pen, lately}
 

@@ -5,14 +5,14 @@ use mathlib.Core.Bool.{true, false}
 use mathlib.Core.List.{List, [], _∷_}
 use Prim.Native.Nat.{ℕ, zero, suc, _+_, _*_}
 use lib.ListN.{replicate}
-use Rattle.cursor.specs.declared.Place.{Place}
-use Rattle.sequences.specs.declared.Sequence.{Sequence}
-use Rattle.sequences.specs.declared.Sequence.the-variants.{Free}
-use Rattle.cells.specs.declared.Cell.{Cell}
-use Rattle.attributes.specs.declared.Waiting.the-variants.{Nothing, Ground}
-use Rattle.attributes.specs.declared.Attributes.{Attributes}
-use Rattle.pen.specs.declared.Last.the-variants.{Never, Character}
-use Rattle.pen.specs.declared.Pen.{Pen}
+use Rattle.screen_cursor.specs.declared.Place.{Place}
+use Rattle.screen_sequences.specs.declared.Sequence.{Sequence}
+use Rattle.screen_sequences.specs.declared.Sequence.the-variants.{Free}
+use Rattle.screen_cells.specs.declared.Cell.{Cell}
+use Rattle.screen_attributes.specs.declared.Waiting.the-variants.{Nothing, Ground}
+use Rattle.screen_attributes.specs.declared.Attributes.{Attributes}
+use Rattle.screen_pen.specs.declared.Last.the-variants.{Never, Character}
+use Rattle.screen_pen.specs.declared.Pen.{Pen}
 
 -- ---- the codes with names (001, part 2, chapter 2)
 

@@ -3,9 +3,9 @@
 use mathlib.Core.List.{List, [], _∷_, _++_}
 use Prim.Native.Nat.{ℕ}
 use lib.ListN.{replicate}
-use Rattle.sequences.specs.declared.Sequence.{Sequence}
-use Rattle.sequences.specs.declared.Sequence.the-variants.{Escape, Long, Control, Separator, Repeat}
-use Rattle.sequences.specs.declared.Sequence.the-variants.{Single, Address, Row}
+use Rattle.screen_sequences.specs.declared.Sequence.{Sequence}
+use Rattle.screen_sequences.specs.declared.Sequence.the-variants.{Escape, Long, Control, Separator, Repeat}
+use Rattle.screen_sequences.specs.declared.Sequence.the-variants.{Single, Address, Row}
 use Rattle.cards.specs.Drawn.{nul, bs, ht, lf, vt, ff, cr, so, si, con, rep, sep, ss2, esc, us}
 use Rattle.cards.specs.Drawn.{cell, flashing, inverted, plain, blanks, rows}
 use Rattle.cards.specs.Drawn.{those, start, awaiting, flash, inverse}

@@ -18,9 +18,9 @@ pub use screen_demands::states::every_step_keeps_the_range as every_step_of_a_sc
 pub use screen_demands::states::reading_gives_the_cell_at_its_place;
 
 // the links: 5 and 2
-pub use link_demands::states::at_most_five_small_bytes;
-pub use link_demands::states::each_call_gives_its_number as each_call_of_the_links_gives_its_number;
-pub use link_demands::states::every_call_keeps_the_range as every_call_of_the_links_keeps_the_range;
+pub use links_demands::states::at_most_five_small_bytes;
+pub use links_demands::states::each_call_gives_its_number as each_call_of_the_links_gives_its_number;
+pub use links_demands::states::every_call_keeps_the_range as every_call_of_the_links_keeps_the_range;
 
 // the board: 5 and 2; for a piece of line bytes 5 and 4
 pub use board_demands::a_piece_gives_its_number;

@@ -36,26 +36,26 @@ pub use screen_demands::rows::lf_returns_from_row_0;
 pub use screen_demands::rows::no_move_crosses_into_row_0;
 
 // the links: what is passed on
-pub use link_demands::flow::all_but_the_commands_comes_through;
-pub use link_demands::flow::esc_goes_with_its_next_code;
-pub use link_demands::flow::keys_change_nothing;
-pub use link_demands::flow::values_go_by_the_links;
-pub use link_demands::states::the_host_chooses_a_table;
+pub use links_demands::flow::all_but_the_commands_comes_through;
+pub use links_demands::flow::esc_goes_with_its_next_code;
+pub use links_demands::flow::keys_change_nothing;
+pub use links_demands::flow::values_go_by_the_links;
+pub use links_demands::states::the_host_chooses_a_table;
 
 // the links: commands and replies
-pub use link_demands::replying::a_command_is_known_by_its_codes;
-pub use link_demands::replying::a_reply_goes_to_the_sender_alone;
-pub use link_demands::replying::a_reply_is_a_command_that_orders_nothing;
-pub use link_demands::replying::a_reply_is_never_answered;
-pub use link_demands::replying::a_status_tells_the_table;
-pub use link_demands::replying::commands_are_taken_out_of_the_flow;
-pub use link_demands::replying::each_has_its_own_sequence;
-pub use link_demands::replying::exactly_so_many_codes_are_taken;
-pub use link_demands::replying::one_link_changes;
+pub use links_demands::replying::a_command_is_known_by_its_codes;
+pub use links_demands::replying::a_reply_goes_to_the_sender_alone;
+pub use links_demands::replying::a_reply_is_a_command_that_orders_nothing;
+pub use links_demands::replying::a_reply_is_never_answered;
+pub use links_demands::replying::a_status_tells_the_table;
+pub use links_demands::replying::commands_are_taken_out_of_the_flow;
+pub use links_demands::replying::each_has_its_own_sequence;
+pub use links_demands::replying::exactly_so_many_codes_are_taken;
+pub use links_demands::replying::one_link_changes;
 
 // the links: worked runs, byte by byte
-pub use link_demands::cards::the_link_cards_hold;
-pub use link_demands::states::a_run_makes_the_public_calls;
+pub use links_demands::cards::the_link_cards_hold;
+pub use links_demands::states::a_run_makes_the_public_calls;
 
 // the board
 pub use board_demands::a_cut_changes_nothing;

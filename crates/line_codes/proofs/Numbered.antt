@@ -3,9 +3,9 @@ use mathlib.Core.Path.{_≡_, refl}
 use mathlib.Core.List.{List, [], _∷_, map}
 use Prim.Native.Nat.{ℕ, suc, _+_, _%_}
 use native.Mathlib.Omega.{arith}
-use Rattle.division.specs.Division.{lowBits}
-use Rattle.parity.specs.Parity.{ones, withParity}
-use Rattle.codes.specs.Codes.{next, numbers, request}
+use Rattle.block_division.specs.Division.{lowBits}
+use Rattle.block_parity.specs.Parity.{ones, withParity}
+use Rattle.line_codes.specs.Codes.{next, numbers, request}
 
 -- "rises by one (15 becomes 0)"
 pub rises : map next numbers ≡ 1 ∷ 2 ∷ 3 ∷ 4 ∷ 5 ∷ 6 ∷ 7 ∷ 8 ∷ 9 ∷ 10 ∷ 11 ∷ 12 ∷ 13 ∷ 14 ∷ 15 ∷ 0 ∷ []

@@ -5,9 +5,9 @@ use Prim.Native.Nat.{ℕ, _%_, _<_}
 use native.Mathlib.Nat.{mod-lt, zero-lt-suc}
 use native.Mathlib.Omega.{arith}
 use Rattle.laws.proofs.Computed.{is-true}
-use Rattle.parity.specs.Parity.{even, withParity}
-use Rattle.parity.proofs.Parities.{parity-even, parity-off}
-use Rattle.codes.specs.Codes.{plainly}
+use Rattle.block_parity.specs.Parity.{even, withParity}
+use Rattle.block_parity.proofs.Parities.{parity-even, parity-off}
+use Rattle.line_codes.specs.Codes.{plainly}
 
 -- "parity removed"
 pub plain-back : (v : ℕ) → v < 128 → plainly (withParity v) ≡ v

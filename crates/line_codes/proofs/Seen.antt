@@ -12,11 +12,11 @@ use lib.ListN.{replicate}
 use borrow.Author.Tests.{le-ltb, ltb-true, eq-eqb, ne-eqb, eqb-true, eqb-false}
 use Rattle.laws.proofs.Computed.{below, at}
 use Rattle.laws.proofs.Lists.{nil-cons, snoc-inj, beginning}
-use Rattle.division.specs.Division.{lowBits}
-use Rattle.parity.specs.Parity.{ones, withParity}
-use Rattle.codes.specs.declared.Listened.{Listened}
-use Rattle.codes.specs.declared.Listened.the-variants.{Seen, Resumed}
-use Rattle.codes.specs.Codes.{syn, nack, four, oneMore, listened, Ends, Nowhere}
+use Rattle.block_division.specs.Division.{lowBits}
+use Rattle.block_parity.specs.Parity.{ones, withParity}
+use Rattle.line_codes.specs.declared.Listened.{Listened}
+use Rattle.line_codes.specs.declared.Listened.the-variants.{Seen, Resumed}
+use Rattle.line_codes.specs.Codes.{syn, nack, four, oneMore, listened, Ends, Nowhere}
 
 -- ---- the codes
 

@@ -4,7 +4,7 @@
 // proofs/Removed that a value with parity passes as that value, and proofs/Seen that counting the synchronising codes
 // to two is looking at the last three bytes.
 ghost use mathlib.Core.Path.{_≡_};
-ghost use Rattle.codes.specs.Codes.{plainly, next, four as fourOf, request as requestFor, listened};
+ghost use Rattle.line_codes.specs.Codes.{plainly, next, four as fourOf, request as requestFor, listened};
 
 // What a byte makes of the waiting for a block.
 pub enum Listened {
@@ -17,7 +17,7 @@ pub enum Listened {
 pub fn plain(byte: u8) -> u8
     ensures { λ r. ⌜ r ≡ plainly byte ⌝ }
 {
-    if parity::is_even(byte) {
+    if block_parity::is_even(byte) {
         byte % 128
     } else {
         127
@@ -35,7 +35,7 @@ pub fn next_number(number: u8) -> u8
 fn four(number: u8) -> u8
     ensures { λ r. ⌜ r ≡ fourOf number ⌝ }
 {
-    parity::with_parity(64 + number % 16)
+    block_parity::with_parity(64 + number % 16)
 }
 
 // The request for a block: NACK and 4/X, with parity.

@@ -3,14 +3,14 @@ ghost use mathlib.Core.Path.{_≡_};
 ghost use mathlib.Core.List.{List, [], _∷_, _++_, map};
 ghost use Prim.Native.Nat.{ℕ, _+_, _≤_, _<_};
 ghost use lib.ListN.{length};
-ghost use Rattle.phases.specs.declared.Phase.the-variants.{Off, Collecting};
-ghost use Rattle.reader.specs.declared.Verdict.the-variants.{Mended};
-ghost use Rattle.receiver.specs.declared.Receiver.{Receiver};
-ghost use Rattle.receiver.specs.States.{emptied};
-ghost use Rattle.receiver.specs.Runs.{byte, run};
-ghost use Rattle.turns.specs.Card.{recorded, notedDown};
-ghost use Rattle.turns.specs.Notes.{verdictNote, notesOf};
-ghost use Rattle.turns.specs.Turns.{turnOf, TakenSingly};
+ghost use Rattle.line_phases.specs.declared.Phase.the-variants.{Off, Collecting};
+ghost use Rattle.block_reader.specs.declared.Verdict.the-variants.{Mended};
+ghost use Rattle.line_receiver.specs.declared.Receiver.{Receiver};
+ghost use Rattle.line_receiver.specs.States.{emptied};
+ghost use Rattle.line_receiver.specs.Runs.{byte, run};
+ghost use Rattle.line_turns.specs.Card.{recorded, notedDown};
+ghost use Rattle.line_turns.specs.Notes.{verdictNote, notesOf};
+ghost use Rattle.line_turns.specs.Turns.{turnOf, TakenSingly};
 
 // Whatever the receiver is, a turn takes some of the bytes that are there, and comes to what these come to one by one:
 // the receiver behind them, the values that they pass on, the bytes that they ask, and the note on each. Where a stretch
@@ -24,9 +24,9 @@ pub fn a_turn_is_its_bytes_one_by_one()
     ensures none { λ _. ⌜ ((r : Receiver) → (turnOf r [] .took ≡ 0) × (turnOf r [] .stepped .next ≡ r)) ⌝ }
 {}
 
-// There is one note for each byte, and however a record is cut, the notes on its parts are those on the whole. Those on a
-// record that has all there can be are written out, byte by byte (specs/Card of the crate `turns`); that on a mended
-// block tells its bit; and while off nothing is noted.
+// There is one note for each byte, and however a record is cut, the notes on its parts are those on the whole. Those on
+// a record that has all there can be are written out, byte by byte (specs/Card of the crate `line_turns`); that on a
+// mended block tells its bit; and while off nothing is noted.
 pub fn the_notes_say_what_each_byte_was()
     ensures { λ _. ⌜ ((r : Receiver) (xs : List ℕ) → length (notesOf r xs) ≡ length xs) ⌝ }
     ensures cut { λ _. ⌜ ((r : Receiver) (xs ys : List ℕ)

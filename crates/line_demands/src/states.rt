@@ -6,11 +6,11 @@ ghost use Prim.Native.Nat.{_-_};
 ghost use lib.ListN.{drop, replicate};
 ghost use Rattle.numbers.specs.Numbers.{numberOf};
 ghost use Rattle.values.specs.Large.{Values};
-ghost use Rattle.receiver.specs.declared.Receiver.{Receiver};
-ghost use Rattle.receiver.specs.States.{inRange, InRange, callConditions, newReceiver};
-ghost use Rattle.phases.specs.declared.Phase.the-variants.{Off};
-ghost use Rattle.receiver.specs.Runs.{Event, obey, run, sentBy};
-ghost use Rattle.receiver.specs.Page.{nothing};
+ghost use Rattle.line_receiver.specs.declared.Receiver.{Receiver};
+ghost use Rattle.line_receiver.specs.States.{inRange, InRange, callConditions, newReceiver};
+ghost use Rattle.line_phases.specs.declared.Phase.the-variants.{Off};
+ghost use Rattle.line_receiver.specs.Runs.{Event, obey, run, sentBy};
+ghost use Rattle.line_receiver.specs.Page.{nothing};
 
 // A call's number comes of the paper's conditions: 5 for a state outside its ranges, and else 0, also where the call
 // asks for a repeat.

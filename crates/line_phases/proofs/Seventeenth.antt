@@ -4,7 +4,7 @@ use mathlib.Core.Bool.{true, false}
 use Prim.Native.Nat.{ℕ, _≤_, _<_}
 use native.Mathlib.Omega.{arith}
 use borrow.Author.Tests.{ltb-true, ltb-false}
-use Rattle.phases.specs.Phases.{awaitsMore}
+use Rattle.line_phases.specs.Phases.{awaitsMore}
 
 -- where more are awaited, sixteen at most are held with the next one
 pub not-yet : (count : ℕ) → awaitsMore count ≡ true → count < 16

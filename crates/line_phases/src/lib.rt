@@ -2,7 +2,7 @@
 // specs/Phases says what each is; proofs/Seventeenth shows that it is the seventeenth byte which completes a block, and
 // proofs/Written has the start and the ends of the ranges written out.
 ghost use mathlib.Core.Path.{_≡_};
-ghost use Rattle.phases.specs.Phases.{atStart, awaitsMore, inRange};
+ghost use Rattle.line_phases.specs.Phases.{atStart, awaitsMore, inRange};
 
 pub enum Phase {
     Off,

@@ -6,22 +6,22 @@ use Prim.Native.Nat.{ℕ, _%_, _≤_}
 use native.Mathlib.Omega.{arith}
 use lib.ListN.{length, take, length-map}
 use Rattle.laws.proofs.Computed.{chosen}
-use Rattle.maker.specs.Making.{valuesOf}
-use Rattle.reader.specs.declared.Verdict.{Verdict}
-use Rattle.reader.specs.Judging.{verdict, left}
-use Rattle.codes.specs.Codes.{request}
-use Rattle.phases.specs.Phases.{awaitsMore}
-use Rattle.phases.specs.declared.Phase.{Phase}
-use Rattle.phases.specs.declared.Phase.the-variants.{Off, Collecting, Waiting}
-use Rattle.receiver.specs.declared.Receiver.{Receiver}
-use Rattle.receiver.specs.declared.Stepped.{Stepped}
-use Rattle.receiver.specs.States.{inRange, InRange}
-use Rattle.receiver.specs.Calls.{whole, accepts, judgedAs, byPhase, stepped, againBy, askedAgain}
-use Rattle.receiver.specs.Runs.{Event, byte, on, off, ask, obey, sentBy}
-use Rattle.receiver.specs.Standing.{askedIn, IsWaiting}
-use Rattle.receiver.proofs.Fifteens.{take-short}
-use Rattle.receiver.proofs.Shape.{Shape, plain, more, took, none, listens, shape}
-use Rattle.receiver.proofs.Kept.{on-afresh, off-afresh, again-as}
+use Rattle.block_maker.specs.Making.{valuesOf}
+use Rattle.block_reader.specs.declared.Verdict.{Verdict}
+use Rattle.block_reader.specs.Judging.{verdict, left}
+use Rattle.line_codes.specs.Codes.{request}
+use Rattle.line_phases.specs.Phases.{awaitsMore}
+use Rattle.line_phases.specs.declared.Phase.{Phase}
+use Rattle.line_phases.specs.declared.Phase.the-variants.{Off, Collecting, Waiting}
+use Rattle.line_receiver.specs.declared.Receiver.{Receiver}
+use Rattle.line_receiver.specs.declared.Stepped.{Stepped}
+use Rattle.line_receiver.specs.States.{inRange, InRange}
+use Rattle.line_receiver.specs.Calls.{whole, accepts, judgedAs, byPhase, stepped, againBy, askedAgain}
+use Rattle.line_receiver.specs.Runs.{Event, byte, on, off, ask, obey, sentBy}
+use Rattle.line_receiver.specs.Standing.{askedIn, IsWaiting}
+use Rattle.line_receiver.proofs.Fifteens.{take-short}
+use Rattle.line_receiver.proofs.Shape.{Shape, plain, more, took, none, listens, shape}
+use Rattle.line_receiver.proofs.Kept.{on-afresh, off-afresh, again-as}
 
 -- nothing is asked; or the block awaited is, its number stays, and the receiver waits
 abbrev pub Asked : Receiver → Stepped → Type 0

@@ -5,18 +5,18 @@ use mathlib.Core.List.{List, _++_, append-nil}
 use Prim.Native.Nat.{ℕ, _-_}
 use native.Mathlib.Omega.{arith}
 use lib.ListN.{length, replicate}
-use Rattle.maker.specs.Making.{valuesOf}
-use Rattle.reader.specs.declared.Verdict.{Verdict}
-use Rattle.reader.specs.Judging.{left, told, judged}
-use Rattle.reader.proofs.Handed.{told-verdict}
-use Rattle.phases.specs.declared.Phase.{Phase}
-use Rattle.receiver.specs.declared.Receiver.{Receiver}
-use Rattle.receiver.specs.declared.Judged.{Judged}
-use Rattle.receiver.specs.declared.Judged.the-variants.{Block}
-use Rattle.receiver.specs.declared.Stepped.{Stepped}
-use Rattle.receiver.specs.States.{inRange}
-use Rattle.receiver.specs.Calls.{padded, refused, accepted, repeated, accepts, judgedAs, whole}
-use Rattle.receiver.specs.Calls.{judgedHeld, byPhase, stepped, againBy, askedAgain}
+use Rattle.block_maker.specs.Making.{valuesOf}
+use Rattle.block_reader.specs.declared.Verdict.{Verdict}
+use Rattle.block_reader.specs.Judging.{left, told, judged}
+use Rattle.block_reader.proofs.Handed.{told-verdict}
+use Rattle.line_phases.specs.declared.Phase.{Phase}
+use Rattle.line_receiver.specs.declared.Receiver.{Receiver}
+use Rattle.line_receiver.specs.declared.Judged.{Judged}
+use Rattle.line_receiver.specs.declared.Judged.the-variants.{Block}
+use Rattle.line_receiver.specs.declared.Stepped.{Stepped}
+use Rattle.line_receiver.specs.States.{inRange}
+use Rattle.line_receiver.specs.Calls.{padded, refused, accepted, repeated, accepts, judgedAs, whole}
+use Rattle.line_receiver.specs.Calls.{judgedHeld, byPhase, stepped, againBy, askedAgain}
 
 pub padded-full : (n : ℕ) (vs : List ℕ) → length vs ≡ n → vs ≡ padded n vs
 padded-full n vs l =

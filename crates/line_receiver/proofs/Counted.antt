@@ -7,23 +7,23 @@ use native.Mathlib.Omega.{arith}
 use lib.ListN.{length}
 use borrow.Author.Tests.{eq-eqb}
 use Rattle.laws.proofs.Computed.{fails}
-use Rattle.maker.specs.Making.{valuesOf}
-use Rattle.reader.specs.Judging.{verdict}
-use Rattle.codes.specs.declared.Listened.{Listened}
-use Rattle.codes.specs.declared.Listened.the-variants.{Seen, Resumed}
-use Rattle.codes.specs.Codes.{listened}
-use Rattle.phases.specs.declared.Phase.{Phase}
-use Rattle.phases.specs.declared.Phase.the-variants.{Off, Collecting, Waiting}
-use Rattle.receiver.specs.declared.Receiver.{Receiver}
-use Rattle.receiver.specs.declared.Stepped.{Stepped}
-use Rattle.receiver.specs.States.{InRange}
-use Rattle.receiver.specs.Calls.{listening, stepped, againBy, askedAgain}
-use Rattle.receiver.specs.Runs.{Event, byte, on, off, ask, obey, run, sentBy, switches, blocksIn}
-use Rattle.receiver.specs.Runs.{blocksSince}
-use Rattle.receiver.proofs.Ranges.{number-in}
-use Rattle.receiver.proofs.Shape.{Shape, plain, more, took, none, listens, shape, arrived}
-use Rattle.receiver.proofs.Kept.{on-afresh, off-afresh, again-as, again-same, keeps}
-use Rattle.receiver.proofs.Outgoing.{sent-accepted, near-fifteen}
+use Rattle.block_maker.specs.Making.{valuesOf}
+use Rattle.block_reader.specs.Judging.{verdict}
+use Rattle.line_codes.specs.declared.Listened.{Listened}
+use Rattle.line_codes.specs.declared.Listened.the-variants.{Seen, Resumed}
+use Rattle.line_codes.specs.Codes.{listened}
+use Rattle.line_phases.specs.declared.Phase.{Phase}
+use Rattle.line_phases.specs.declared.Phase.the-variants.{Off, Collecting, Waiting}
+use Rattle.line_receiver.specs.declared.Receiver.{Receiver}
+use Rattle.line_receiver.specs.declared.Stepped.{Stepped}
+use Rattle.line_receiver.specs.States.{InRange}
+use Rattle.line_receiver.specs.Calls.{listening, stepped, againBy, askedAgain}
+use Rattle.line_receiver.specs.Runs.{Event, byte, on, off, ask, obey, run, sentBy, switches, blocksIn}
+use Rattle.line_receiver.specs.Runs.{blocksSince}
+use Rattle.line_receiver.proofs.Ranges.{number-in}
+use Rattle.line_receiver.proofs.Shape.{Shape, plain, more, took, none, listens, shape, arrived}
+use Rattle.line_receiver.proofs.Kept.{on-afresh, off-afresh, again-as, again-same, keeps}
+use Rattle.line_receiver.proofs.Outgoing.{sent-accepted, near-fifteen}
 
 -- listening leaves the number
 listening-number : (l : Listened) (r : Receiver) → listening l r .number ≡ r .number

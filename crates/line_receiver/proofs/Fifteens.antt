@@ -11,12 +11,12 @@ use lib.ListN.{take-append-drop, drop-of-length-le, replicate-append-replicate}
 use lib.Seq.{take-all, length-take-le, take-append-add}
 use Rattle.laws.proofs.Computed.{apart}
 use Rattle.values.specs.Large.{Values}
-use Rattle.validity.specs.Block.{Valid}
-use Rattle.maker.specs.Making.{blockOf}
-use Rattle.maker.proofs.Blocks.{made-valid}
-use Rattle.receiver.specs.Calls.{padded}
-use Rattle.receiver.specs.Line.{blocksFor, fifteens, filled, joined}
-use Rattle.receiver.proofs.Cases.{padded-full}
+use Rattle.block_validity.specs.Block.{Valid}
+use Rattle.block_maker.specs.Making.{blockOf}
+use Rattle.block_maker.proofs.Blocks.{made-valid}
+use Rattle.line_receiver.specs.Calls.{padded}
+use Rattle.line_receiver.specs.Line.{blocksFor, fifteens, filled, joined}
+use Rattle.line_receiver.proofs.Cases.{padded-full}
 
 -- each can be made into a block
 abbrev pub Cut : List (List ℕ) → Type 0

@@ -10,31 +10,31 @@ use lib.ListN.{length, take, length-append}
 use lib.Seq.{length-take-le}
 use borrow.Author.Tests.{eq-eqb}
 use Rattle.laws.proofs.Computed.{fails, holds}
-use Rattle.maker.specs.Making.{valuesOf}
-use Rattle.reader.specs.declared.Verdict.the-variants.{Repeat}
-use Rattle.reader.specs.Judging.{verdict}
-use Rattle.reader.specs.Claims.{NoneNear, OnlyNear}
-use Rattle.codes.specs.declared.Listened.{Listened}
-use Rattle.codes.specs.Codes.{listened}
-use Rattle.codes.proofs.Seen.{seenIn, seen-syns, Heard, heard}
-use Rattle.phases.specs.declared.Phase.{Phase}
-use Rattle.phases.specs.declared.Phase.the-variants.{Off, Collecting, Waiting}
-use Rattle.receiver.specs.declared.Receiver.{Receiver}
-use Rattle.receiver.specs.declared.Judged.the-variants.{Nothing, Block}
-use Rattle.receiver.specs.declared.Stepped.{Stepped}
-use Rattle.receiver.specs.States.{InRange}
-use Rattle.receiver.specs.Calls.{silent, listening, askedAgain, stepped}
-use Rattle.receiver.specs.Runs.{Event, byte, on, off, ask, obey, run, Sent, sentBy, sent}
-use Rattle.receiver.specs.Page.{passes, asks, Stand, idle, midway, awaiting, Says, plain, held, taken}
-use Rattle.receiver.specs.Page.{refused, dropped, resumed, again, midwayAsk, idleAsk, switchedOn}
-use Rattle.receiver.specs.Page.{switchedOff, Course, done, next}
-use Rattle.receiver.specs.Standing.{standIn, standOf, Stands}
-use Rattle.receiver.proofs.Ranges.{count-in, seen-in}
-use Rattle.receiver.proofs.Cases.{again-in}
-use Rattle.receiver.proofs.Shape as shapes
-use Rattle.receiver.proofs.Shape.{Shape, shape, arrived, grown}
-use Rattle.receiver.proofs.Kept.{on-afresh, off-afresh, keeps}
-use Rattle.receiver.proofs.Outgoing.{sent-accepted}
+use Rattle.block_maker.specs.Making.{valuesOf}
+use Rattle.block_reader.specs.declared.Verdict.the-variants.{Repeat}
+use Rattle.block_reader.specs.Judging.{verdict}
+use Rattle.block_reader.specs.Claims.{NoneNear, OnlyNear}
+use Rattle.line_codes.specs.declared.Listened.{Listened}
+use Rattle.line_codes.specs.Codes.{listened}
+use Rattle.line_codes.proofs.Seen.{seenIn, seen-syns, Heard, heard}
+use Rattle.line_phases.specs.declared.Phase.{Phase}
+use Rattle.line_phases.specs.declared.Phase.the-variants.{Off, Collecting, Waiting}
+use Rattle.line_receiver.specs.declared.Receiver.{Receiver}
+use Rattle.line_receiver.specs.declared.Judged.the-variants.{Nothing, Block}
+use Rattle.line_receiver.specs.declared.Stepped.{Stepped}
+use Rattle.line_receiver.specs.States.{InRange}
+use Rattle.line_receiver.specs.Calls.{silent, listening, askedAgain, stepped}
+use Rattle.line_receiver.specs.Runs.{Event, byte, on, off, ask, obey, run, Sent, sentBy, sent}
+use Rattle.line_receiver.specs.Page.{passes, asks, Stand, idle, midway, awaiting, Says, plain, held, taken}
+use Rattle.line_receiver.specs.Page.{refused, dropped, resumed, again, midwayAsk, idleAsk, switchedOn}
+use Rattle.line_receiver.specs.Page.{switchedOff, Course, done, next}
+use Rattle.line_receiver.specs.Standing.{standIn, standOf, Stands}
+use Rattle.line_receiver.proofs.Ranges.{count-in, seen-in}
+use Rattle.line_receiver.proofs.Cases.{again-in}
+use Rattle.line_receiver.proofs.Shape as shapes
+use Rattle.line_receiver.proofs.Shape.{Shape, shape, arrived, grown}
+use Rattle.line_receiver.proofs.Kept.{on-afresh, off-afresh, keeps}
+use Rattle.line_receiver.proofs.Outgoing.{sent-accepted}
 
 -- ---- a phase is one phase
 

@@ -8,33 +8,33 @@ use native.Mathlib.Nat.{mod-lt, zero-lt-suc}
 use native.Mathlib.Omega.{arith}
 use lib.ListN.{length}
 use Rattle.values.specs.Large.{Values}
-use Rattle.validity.specs.Changed.{Near, same, changed}
-use Rattle.validity.specs.Block.{Valid}
-use Rattle.validity.proofs.Flips.{flip-length}
-use Rattle.validity.proofs.Validity.{valid-length}
-use Rattle.maker.specs.Making.{blockOf, valuesOf}
-use Rattle.maker.proofs.Blocks.{made-valid, values-back}
-use Rattle.reader.specs.Judging.{mendable}
-use Rattle.reader.specs.Claims.{NoneNear}
-use Rattle.reader.proofs.Verdicts.{near-only}
-use Rattle.codes.specs.Codes.{syn, four, request, Nowhere}
-use Rattle.codes.proofs.Numbered.{counted}
-use Rattle.codes.proofs.Seen.{seen-syns, nowhere-syn}
-use Rattle.phases.specs.declared.Phase.the-variants.{Collecting, Waiting}
-use Rattle.receiver.specs.declared.Receiver.{Receiver}
-use Rattle.receiver.specs.declared.Stepped.{Stepped}
-use Rattle.receiver.specs.States.{InRange, emptied}
-use Rattle.receiver.specs.Calls.{padded, silent, stepped}
-use Rattle.receiver.specs.Runs.{byte, run, Sent, sentBy, sent, allPassed, allAsked, unswitched}
-use Rattle.receiver.specs.Runs.{bytesOf}
-use Rattle.receiver.specs.Page.{whileWaiting, awaiting}
-use Rattle.receiver.specs.Line.{Arrives, nothingMore}
-use Rattle.receiver.specs.Line.{blockThen}
-use Rattle.receiver.proofs.Kept.{emptied-in, runs-keep, run-append, sent-append, asked-append}
-use Rattle.receiver.proofs.Followed.{At}
-use Rattle.receiver.proofs.Waits.{resumes, waits-on}
-use Rattle.receiver.proofs.Seventeen.{block-passes, block-asked}
-use Rattle.receiver.proofs.Fifteens.{Cut, values}
+use Rattle.block_validity.specs.Changed.{Near, same, changed}
+use Rattle.block_validity.specs.Block.{Valid}
+use Rattle.block_validity.proofs.Flips.{flip-length}
+use Rattle.block_validity.proofs.Validity.{valid-length}
+use Rattle.block_maker.specs.Making.{blockOf, valuesOf}
+use Rattle.block_maker.proofs.Blocks.{made-valid, values-back}
+use Rattle.block_reader.specs.Judging.{mendable}
+use Rattle.block_reader.specs.Claims.{NoneNear}
+use Rattle.block_reader.proofs.Verdicts.{near-only}
+use Rattle.line_codes.specs.Codes.{syn, four, request, Nowhere}
+use Rattle.line_codes.proofs.Numbered.{counted}
+use Rattle.line_codes.proofs.Seen.{seen-syns, nowhere-syn}
+use Rattle.line_phases.specs.declared.Phase.the-variants.{Collecting, Waiting}
+use Rattle.line_receiver.specs.declared.Receiver.{Receiver}
+use Rattle.line_receiver.specs.declared.Stepped.{Stepped}
+use Rattle.line_receiver.specs.States.{InRange, emptied}
+use Rattle.line_receiver.specs.Calls.{padded, silent, stepped}
+use Rattle.line_receiver.specs.Runs.{byte, run, Sent, sentBy, sent, allPassed, allAsked, unswitched}
+use Rattle.line_receiver.specs.Runs.{bytesOf}
+use Rattle.line_receiver.specs.Page.{whileWaiting, awaiting}
+use Rattle.line_receiver.specs.Line.{Arrives, nothingMore}
+use Rattle.line_receiver.specs.Line.{blockThen}
+use Rattle.line_receiver.proofs.Kept.{emptied-in, runs-keep, run-append, sent-append, asked-append}
+use Rattle.line_receiver.proofs.Followed.{At}
+use Rattle.line_receiver.proofs.Waits.{resumes, waits-on}
+use Rattle.line_receiver.proofs.Seventeen.{block-passes, block-asked}
+use Rattle.line_receiver.proofs.Fifteens.{Cut, values}
 
 -- ---- all that passes and is asked over bytes, and the state behind them
 

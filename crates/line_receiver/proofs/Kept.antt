@@ -7,22 +7,22 @@ use native.Mathlib.Nat.{mod-lt, zero-lt-suc}
 use native.Mathlib.Omega.{arith}
 use lib.ListN.{length-set}
 use borrow.Author.Tests.{lt-ltb}
-use Rattle.codes.specs.declared.Listened.{Listened}
-use Rattle.codes.specs.declared.Listened.the-variants.{Seen, Resumed}
-use Rattle.codes.specs.Codes.{listened}
-use Rattle.codes.proofs.Seen.{SeenBelow, listened-lt}
-use Rattle.phases.specs.declared.Phase.{Phase}
-use Rattle.phases.specs.Phases.{seenInRange}
-use Rattle.phases.specs.declared.Phase.the-variants.{Off, Collecting, Waiting}
-use Rattle.receiver.specs.declared.Receiver.{Receiver}
-use Rattle.receiver.specs.declared.Stepped.{Stepped}
-use Rattle.receiver.specs.States.{inRange, InRange, emptied, newReceiver}
-use Rattle.receiver.specs.Calls.{silent, refused, holding, waiting, listening, switchedOn, switchedOff}
-use Rattle.receiver.specs.Calls.{againBy, askedAgain}
-use Rattle.receiver.specs.Runs.{Event, byte, on, off, ask, obey, run, Sent, sentBy, sent, allAsked}
-use Rattle.receiver.proofs.Ranges.{in-range, number-in, count-in}
-use Rattle.receiver.proofs.Cases.{again-in}
-use Rattle.receiver.proofs.Shape.{Shape, plain, more, took, none, listens, shape}
+use Rattle.line_codes.specs.declared.Listened.{Listened}
+use Rattle.line_codes.specs.declared.Listened.the-variants.{Seen, Resumed}
+use Rattle.line_codes.specs.Codes.{listened}
+use Rattle.line_codes.proofs.Seen.{SeenBelow, listened-lt}
+use Rattle.line_phases.specs.declared.Phase.{Phase}
+use Rattle.line_phases.specs.Phases.{seenInRange}
+use Rattle.line_phases.specs.declared.Phase.the-variants.{Off, Collecting, Waiting}
+use Rattle.line_receiver.specs.declared.Receiver.{Receiver}
+use Rattle.line_receiver.specs.declared.Stepped.{Stepped}
+use Rattle.line_receiver.specs.States.{inRange, InRange, emptied, newReceiver}
+use Rattle.line_receiver.specs.Calls.{silent, refused, holding, waiting, listening, switchedOn, switchedOff}
+use Rattle.line_receiver.specs.Calls.{againBy, askedAgain}
+use Rattle.line_receiver.specs.Runs.{Event, byte, on, off, ask, obey, run, Sent, sentBy, sent, allAsked}
+use Rattle.line_receiver.proofs.Ranges.{in-range, number-in, count-in}
+use Rattle.line_receiver.proofs.Cases.{again-in}
+use Rattle.line_receiver.proofs.Shape.{Shape, plain, more, took, none, listens, shape}
 
 -- ---- a byte
 

@@ -3,13 +3,13 @@ use mathlib.Core.Path.{_≡_, refl, sym, ap, ap₂, subst}
 use mathlib.Core.List.{List, [], _∷_, _++_}
 use Prim.Native.Nat.{ℕ}
 use native.Mathlib.Omega.{arith}
-use Rattle.maker.specs.Making.{valuesOf}
-use Rattle.reader.specs.Judging.{verdict}
-use Rattle.reader.specs.Claims.{NoneNear, OnlyNear}
-use Rattle.receiver.specs.declared.Judged.the-variants.{Block}
-use Rattle.receiver.specs.Runs.{Event, Sent}
-use Rattle.receiver.specs.Page.{passes, Stand, Says, plain, held, taken, refused, dropped, resumed, again}
-use Rattle.receiver.specs.Page.{midwayAsk, idleAsk, switchedOn, switchedOff, Course, done, next}
+use Rattle.block_maker.specs.Making.{valuesOf}
+use Rattle.block_reader.specs.Judging.{verdict}
+use Rattle.block_reader.specs.Claims.{NoneNear, OnlyNear}
+use Rattle.line_receiver.specs.declared.Judged.the-variants.{Block}
+use Rattle.line_receiver.specs.Runs.{Event, Sent}
+use Rattle.line_receiver.specs.Page.{passes, Stand, Says, plain, held, taken, refused, dropped, resumed, again}
+use Rattle.line_receiver.specs.Page.{midwayAsk, idleAsk, switchedOn, switchedOff, Course, done, next}
 
 pub same-block : {B C D : List ℕ} → OnlyNear B C → OnlyNear B D → C ≡ D
 same-block {B} {C} {D} p q = q .only C (p .near) (p .isValid)

@@ -8,27 +8,27 @@ use lib.ListN.{length, replicate}
 use lib.Seq.{take-at}
 use Rattle.numbers.specs.Numbers.{numberOf}
 use Rattle.values.specs.Large.{Values}
-use Rattle.validity.proofs.Validity.{valid-length}
-use Rattle.maker.specs.Making.{valuesOf}
-use Rattle.maker.proofs.Blocks.{values-length, values-low}
-use Rattle.reader.specs.declared.Verdict.{Verdict}
-use Rattle.reader.specs.Judging.{verdict, left}
-use Rattle.reader.specs.Claims.{OnlyNear}
-use Rattle.codes.specs.Codes.{plainly}
-use Rattle.codes.proofs.Removed.{plain-lt}
-use Rattle.phases.specs.Phases.{awaitsMore}
-use Rattle.phases.specs.declared.Phase.{Phase}
-use Rattle.phases.specs.declared.Phase.the-variants.{Off, Collecting, Waiting}
-use Rattle.receiver.specs.declared.Receiver.{Receiver}
-use Rattle.receiver.specs.declared.Judged.the-variants.{Block}
-use Rattle.receiver.specs.declared.Stepped.{Stepped}
-use Rattle.receiver.specs.States.{inRange, InRange, emptied, callConditions}
-use Rattle.receiver.specs.Calls.{silent, refused, holding, whole, accepted, repeated, accepts, judgedHeld}
-use Rattle.receiver.specs.Calls.{byPhase, againBy}
-use Rattle.receiver.specs.Runs.{Event, byte, on, off, ask, obey, Sent, sentBy}
-use Rattle.receiver.specs.Page.{nothing, passes}
-use Rattle.receiver.proofs.Shape.{Shape, plain, more, took, none, listens, shape, arrived}
-use Rattle.receiver.proofs.Kept.{on-afresh, off-afresh, again-as}
+use Rattle.block_validity.proofs.Validity.{valid-length}
+use Rattle.block_maker.specs.Making.{valuesOf}
+use Rattle.block_maker.proofs.Blocks.{values-length, values-low}
+use Rattle.block_reader.specs.declared.Verdict.{Verdict}
+use Rattle.block_reader.specs.Judging.{verdict, left}
+use Rattle.block_reader.specs.Claims.{OnlyNear}
+use Rattle.line_codes.specs.Codes.{plainly}
+use Rattle.line_codes.proofs.Removed.{plain-lt}
+use Rattle.line_phases.specs.Phases.{awaitsMore}
+use Rattle.line_phases.specs.declared.Phase.{Phase}
+use Rattle.line_phases.specs.declared.Phase.the-variants.{Off, Collecting, Waiting}
+use Rattle.line_receiver.specs.declared.Receiver.{Receiver}
+use Rattle.line_receiver.specs.declared.Judged.the-variants.{Block}
+use Rattle.line_receiver.specs.declared.Stepped.{Stepped}
+use Rattle.line_receiver.specs.States.{inRange, InRange, emptied, callConditions}
+use Rattle.line_receiver.specs.Calls.{silent, refused, holding, whole, accepted, repeated, accepts, judgedHeld}
+use Rattle.line_receiver.specs.Calls.{byPhase, againBy}
+use Rattle.line_receiver.specs.Runs.{Event, byte, on, off, ask, obey, Sent, sentBy}
+use Rattle.line_receiver.specs.Page.{nothing, passes}
+use Rattle.line_receiver.proofs.Shape.{Shape, plain, more, took, none, listens, shape, arrived}
+use Rattle.line_receiver.proofs.Kept.{on-afresh, off-afresh, again-as}
 
 -- ---- fifteen values
 

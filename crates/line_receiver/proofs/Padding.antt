@@ -5,21 +5,21 @@ use Prim.Native.Nat.{ℕ, _-_}
 use lib.ListN.{length, drop, replicate}
 use lib.Seq.{drop-at}
 use Rattle.laws.proofs.Computed.{chosen}
-use Rattle.maker.specs.Making.{valuesOf}
-use Rattle.reader.specs.declared.Verdict.{Verdict}
-use Rattle.reader.specs.Judging.{verdict, left}
-use Rattle.codes.specs.Codes.{plainly, next, request, listened}
-use Rattle.phases.specs.Phases.{awaitsMore}
-use Rattle.phases.specs.declared.Phase.{Phase}
-use Rattle.phases.specs.declared.Phase.the-variants.{Off, Collecting, Waiting}
-use Rattle.receiver.specs.declared.Receiver.{Receiver}
-use Rattle.receiver.specs.declared.Judged.{Judged}
-use Rattle.receiver.specs.declared.Judged.the-variants.{Nothing, Block}
-use Rattle.receiver.specs.declared.Stepped.{Stepped}
-use Rattle.receiver.specs.States.{inRange, emptied}
-use Rattle.receiver.specs.Calls.{giving, refused, holding, whole, accepts, judgedAs, listening}
-use Rattle.receiver.specs.Calls.{byPhase, againBy}
-use Rattle.receiver.specs.Runs.{Event, byte, on, off, ask, obey}
+use Rattle.block_maker.specs.Making.{valuesOf}
+use Rattle.block_reader.specs.declared.Verdict.{Verdict}
+use Rattle.block_reader.specs.Judging.{verdict, left}
+use Rattle.line_codes.specs.Codes.{plainly, next, request, listened}
+use Rattle.line_phases.specs.Phases.{awaitsMore}
+use Rattle.line_phases.specs.declared.Phase.{Phase}
+use Rattle.line_phases.specs.declared.Phase.the-variants.{Off, Collecting, Waiting}
+use Rattle.line_receiver.specs.declared.Receiver.{Receiver}
+use Rattle.line_receiver.specs.declared.Judged.{Judged}
+use Rattle.line_receiver.specs.declared.Judged.the-variants.{Nothing, Block}
+use Rattle.line_receiver.specs.declared.Stepped.{Stepped}
+use Rattle.line_receiver.specs.States.{inRange, emptied}
+use Rattle.line_receiver.specs.Calls.{giving, refused, holding, whole, accepts, judgedAs, listening}
+use Rattle.line_receiver.specs.Calls.{byPhase, againBy}
+use Rattle.line_receiver.specs.Runs.{Event, byte, on, off, ask, obey}
 
 abbrev pub Cleared : Stepped → Type 0
 Cleared s =

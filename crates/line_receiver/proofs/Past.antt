@@ -5,27 +5,27 @@ use mathlib.Core.List.{List, [], _∷_, _++_}
 use Prim.Native.Nat.{ℕ, _<_}
 use native.Mathlib.Omega.{arith}
 use lib.ListN.{take, length-set}
-use Rattle.maker.specs.Making.{valuesOf}
-use Rattle.reader.specs.declared.Verdict.{Verdict}
-use Rattle.reader.specs.Judging.{verdict, left}
-use Rattle.codes.specs.declared.Listened.{Listened}
-use Rattle.codes.specs.declared.Listened.the-variants.{Seen, Resumed}
-use Rattle.codes.specs.Codes.{plainly, request, listened}
-use Rattle.phases.specs.Phases.{awaitsMore}
-use Rattle.phases.proofs.Seventeenth.{not-yet, the-last}
-use Rattle.phases.specs.declared.Phase.{Phase}
-use Rattle.phases.specs.declared.Phase.the-variants.{Off, Collecting, Waiting}
-use Rattle.receiver.specs.declared.Receiver.{Receiver}
-use Rattle.receiver.specs.declared.Judged.{Judged}
-use Rattle.receiver.specs.declared.Judged.the-variants.{Nothing, Block}
-use Rattle.receiver.specs.declared.Stepped.{Stepped}
-use Rattle.receiver.specs.States.{inRange, emptied}
-use Rattle.receiver.specs.Calls.{giving, silent, refused, holding, whole, accepted, repeated, accepts}
-use Rattle.receiver.specs.Calls.{judgedAs, judgedHeld, collecting, waiting, listening, byPhase, againBy}
-use Rattle.receiver.specs.Runs.{Event, byte, on, off, ask, obey, run}
-use Rattle.receiver.specs.Alike.{Alike, AlikeSteps}
-use Rattle.receiver.proofs.Ranges.{count-in}
-use Rattle.receiver.proofs.Shape.{grown, whole-is}
+use Rattle.block_maker.specs.Making.{valuesOf}
+use Rattle.block_reader.specs.declared.Verdict.{Verdict}
+use Rattle.block_reader.specs.Judging.{verdict, left}
+use Rattle.line_codes.specs.declared.Listened.{Listened}
+use Rattle.line_codes.specs.declared.Listened.the-variants.{Seen, Resumed}
+use Rattle.line_codes.specs.Codes.{plainly, request, listened}
+use Rattle.line_phases.specs.Phases.{awaitsMore}
+use Rattle.line_phases.proofs.Seventeenth.{not-yet, the-last}
+use Rattle.line_phases.specs.declared.Phase.{Phase}
+use Rattle.line_phases.specs.declared.Phase.the-variants.{Off, Collecting, Waiting}
+use Rattle.line_receiver.specs.declared.Receiver.{Receiver}
+use Rattle.line_receiver.specs.declared.Judged.{Judged}
+use Rattle.line_receiver.specs.declared.Judged.the-variants.{Nothing, Block}
+use Rattle.line_receiver.specs.declared.Stepped.{Stepped}
+use Rattle.line_receiver.specs.States.{inRange, emptied}
+use Rattle.line_receiver.specs.Calls.{giving, silent, refused, holding, whole, accepted, repeated, accepts}
+use Rattle.line_receiver.specs.Calls.{judgedAs, judgedHeld, collecting, waiting, listening, byPhase, againBy}
+use Rattle.line_receiver.specs.Runs.{Event, byte, on, off, ask, obey, run}
+use Rattle.line_receiver.specs.Alike.{Alike, AlikeSteps}
+use Rattle.line_receiver.proofs.Ranges.{count-in}
+use Rattle.line_receiver.proofs.Shape.{grown, whole-is}
 
 -- ---- what does not look at the array
 

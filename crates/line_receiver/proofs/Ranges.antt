@@ -5,10 +5,10 @@ use Prim.Native.Nat.{ℕ, _<_}
 use lib.Dec.{T, ltb}
 use borrow.Author.Tests.{ltb-true, lt-ltb}
 use Rattle.laws.proofs.Computed.{and-left, and-right, both, is-true, holds}
-use Rattle.phases.specs.Phases.{seenInRange}
-use Rattle.phases.specs.declared.Phase.the-variants.{Waiting}
-use Rattle.receiver.specs.declared.Receiver.{Receiver}
-use Rattle.receiver.specs.States.{inRange}
+use Rattle.line_phases.specs.Phases.{seenInRange}
+use Rattle.line_phases.specs.declared.Phase.the-variants.{Waiting}
+use Rattle.line_receiver.specs.declared.Receiver.{Receiver}
+use Rattle.line_receiver.specs.States.{inRange}
 
 module _ (r : Receiver) where
   number-test : T (inRange r) → T (ltb (r .number) 16)

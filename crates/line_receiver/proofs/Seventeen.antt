@@ -5,24 +5,24 @@ use Prim.Native.Nat.{ℕ, _+_, _%_, _≤_, _<_}
 use native.Mathlib.Omega.{arith}
 use lib.ListN.{length, getD, take, replicate, length-append}
 use lib.Seq.{take-suc, take-all, length-take-le}
-use Rattle.maker.specs.Making.{valuesOf}
-use Rattle.reader.specs.declared.Verdict.the-variants.{Repeat}
-use Rattle.reader.specs.Judging.{verdict}
-use Rattle.reader.specs.Claims.{NoneNear, OnlyNear}
-use Rattle.phases.specs.declared.Phase.the-variants.{Off, Collecting, Waiting}
-use Rattle.receiver.specs.declared.Receiver.{Receiver}
-use Rattle.receiver.specs.declared.Judged.the-variants.{Block}
-use Rattle.receiver.specs.declared.Stepped.{Stepped}
-use Rattle.receiver.specs.States.{InRange, emptied}
-use Rattle.receiver.specs.Calls.{accepted, repeated, stepped}
-use Rattle.receiver.specs.Runs.{byte, run, Sent, sentBy, sent}
-use Rattle.receiver.specs.Page.{nothing, passes, asks, atLast, Stand, midway, Says, held, taken, refused}
-use Rattle.receiver.proofs.Shape as shapes
-use Rattle.receiver.proofs.Shape.{Shape, shape, arrived}
-use Rattle.receiver.proofs.Kept.{emptied-in, keeps, runs-keep, run-append, sent-append}
-use Rattle.receiver.proofs.Outgoing.{sent-accepted}
-use Rattle.receiver.proofs.Followed.{other-phase, At, arrived-is, follows-one}
-use Rattle.receiver.proofs.Once.{same-block, not-both}
+use Rattle.block_maker.specs.Making.{valuesOf}
+use Rattle.block_reader.specs.declared.Verdict.the-variants.{Repeat}
+use Rattle.block_reader.specs.Judging.{verdict}
+use Rattle.block_reader.specs.Claims.{NoneNear, OnlyNear}
+use Rattle.line_phases.specs.declared.Phase.the-variants.{Off, Collecting, Waiting}
+use Rattle.line_receiver.specs.declared.Receiver.{Receiver}
+use Rattle.line_receiver.specs.declared.Judged.the-variants.{Block}
+use Rattle.line_receiver.specs.declared.Stepped.{Stepped}
+use Rattle.line_receiver.specs.States.{InRange, emptied}
+use Rattle.line_receiver.specs.Calls.{accepted, repeated, stepped}
+use Rattle.line_receiver.specs.Runs.{byte, run, Sent, sentBy, sent}
+use Rattle.line_receiver.specs.Page.{nothing, passes, asks, atLast, Stand, midway, Says, held, taken, refused}
+use Rattle.line_receiver.proofs.Shape as shapes
+use Rattle.line_receiver.proofs.Shape.{Shape, shape, arrived}
+use Rattle.line_receiver.proofs.Kept.{emptied-in, keeps, runs-keep, run-append, sent-append}
+use Rattle.line_receiver.proofs.Outgoing.{sent-accepted}
+use Rattle.line_receiver.proofs.Followed.{other-phase, At, arrived-is, follows-one}
+use Rattle.line_receiver.proofs.Once.{same-block, not-both}
 
 -- ---- bytes before the seventeenth
 

@@ -8,24 +8,24 @@ use native.Mathlib.Omega.{arith}
 use lib.ListN.{length, take, set, length-set}
 use lib.Seq.{take-suc-set, take-all}
 use Rattle.laws.proofs.Computed.{holds, fails}
-use Rattle.maker.specs.Making.{valuesOf}
-use Rattle.reader.specs.declared.Verdict.{Verdict}
-use Rattle.reader.specs.declared.Verdict.the-variants.{Clean, Mended, Repeat, WrongLength}
-use Rattle.reader.specs.Judging.{verdict, left}
-use Rattle.reader.specs.Claims.{Right, NoneNear, OnlyNear}
-use Rattle.reader.proofs.Verdicts.{is-right, handed-on, asked-when-none}
-use Rattle.codes.specs.Codes.{plainly, listened}
-use Rattle.phases.specs.Phases.{awaitsMore}
-use Rattle.phases.proofs.Seventeenth.{not-yet, the-last}
-use Rattle.phases.specs.declared.Phase.{Phase}
-use Rattle.phases.specs.declared.Phase.the-variants.{Off, Collecting, Waiting}
-use Rattle.receiver.specs.declared.Receiver.{Receiver}
-use Rattle.receiver.specs.declared.Stepped.{Stepped}
-use Rattle.receiver.specs.States.{InRange}
-use Rattle.receiver.specs.Calls.{silent, passing, holding, whole, accepted, repeated, accepts, judgedAs}
-use Rattle.receiver.specs.Calls.{judgedHeld, collecting, listening, byPhase, stepped}
-use Rattle.receiver.proofs.Ranges.{count-in}
-use Rattle.receiver.proofs.Cases.{step-in}
+use Rattle.block_maker.specs.Making.{valuesOf}
+use Rattle.block_reader.specs.declared.Verdict.{Verdict}
+use Rattle.block_reader.specs.declared.Verdict.the-variants.{Clean, Mended, Repeat, WrongLength}
+use Rattle.block_reader.specs.Judging.{verdict, left}
+use Rattle.block_reader.specs.Claims.{Right, NoneNear, OnlyNear}
+use Rattle.block_reader.proofs.Verdicts.{is-right, handed-on, asked-when-none}
+use Rattle.line_codes.specs.Codes.{plainly, listened}
+use Rattle.line_phases.specs.Phases.{awaitsMore}
+use Rattle.line_phases.proofs.Seventeenth.{not-yet, the-last}
+use Rattle.line_phases.specs.declared.Phase.{Phase}
+use Rattle.line_phases.specs.declared.Phase.the-variants.{Off, Collecting, Waiting}
+use Rattle.line_receiver.specs.declared.Receiver.{Receiver}
+use Rattle.line_receiver.specs.declared.Stepped.{Stepped}
+use Rattle.line_receiver.specs.States.{InRange}
+use Rattle.line_receiver.specs.Calls.{silent, passing, holding, whole, accepted, repeated, accepts, judgedAs}
+use Rattle.line_receiver.specs.Calls.{judgedHeld, collecting, listening, byPhase, stepped}
+use Rattle.line_receiver.proofs.Ranges.{count-in}
+use Rattle.line_receiver.proofs.Cases.{step-in}
 
 -- the seventeen bytes: those held, and the last
 abbrev pub arrived : Receiver → ℕ → List ℕ

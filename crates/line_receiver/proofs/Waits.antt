@@ -5,24 +5,24 @@ use mathlib.Core.List.{List, [], _∷_, _++_, map, append-assoc, append-nil}
 use Prim.Native.Nat.{ℕ}
 use lib.ListN.{replicate}
 use Rattle.laws.proofs.Computed.{fails, holds}
-use Rattle.codes.specs.declared.Listened.{Listened}
-use Rattle.codes.specs.Codes.{syn, Ends, Nowhere}
-use Rattle.codes.proofs.Seen.{seenIn, seen-syns, ended, never}
-use Rattle.phases.specs.declared.Phase.the-variants.{Off, Collecting, Waiting}
-use Rattle.receiver.specs.declared.Receiver.{Receiver}
-use Rattle.receiver.specs.declared.Judged.the-variants.{Nothing}
-use Rattle.receiver.specs.declared.Stepped.{Stepped}
-use Rattle.receiver.specs.States.{InRange, emptied}
-use Rattle.receiver.specs.Calls.{silent, listening, stepped}
-use Rattle.receiver.specs.Runs.{Event, byte, on, off, ask, obey, run, Sent, sent, unswitched, bytesOf}
-use Rattle.receiver.specs.Page.{nothing, asks, whileWaiting, Stand, awaiting, Says, dropped, resumed}
-use Rattle.receiver.specs.Page.{again}
-use Rattle.receiver.specs.Standing.{IsWaiting}
-use Rattle.receiver.proofs.Ranges.{seen-in}
-use Rattle.receiver.proofs.Shape as shapes
-use Rattle.receiver.proofs.Shape.{Shape, shape}
-use Rattle.receiver.proofs.Kept.{keeps, runs-keep}
-use Rattle.receiver.proofs.Followed.{other-phase, At, same-listened, follows-one}
+use Rattle.line_codes.specs.declared.Listened.{Listened}
+use Rattle.line_codes.specs.Codes.{syn, Ends, Nowhere}
+use Rattle.line_codes.proofs.Seen.{seenIn, seen-syns, ended, never}
+use Rattle.line_phases.specs.declared.Phase.the-variants.{Off, Collecting, Waiting}
+use Rattle.line_receiver.specs.declared.Receiver.{Receiver}
+use Rattle.line_receiver.specs.declared.Judged.the-variants.{Nothing}
+use Rattle.line_receiver.specs.declared.Stepped.{Stepped}
+use Rattle.line_receiver.specs.States.{InRange, emptied}
+use Rattle.line_receiver.specs.Calls.{silent, listening, stepped}
+use Rattle.line_receiver.specs.Runs.{Event, byte, on, off, ask, obey, run, Sent, sent, unswitched, bytesOf}
+use Rattle.line_receiver.specs.Page.{nothing, asks, whileWaiting, Stand, awaiting, Says, dropped, resumed}
+use Rattle.line_receiver.specs.Page.{again}
+use Rattle.line_receiver.specs.Standing.{IsWaiting}
+use Rattle.line_receiver.proofs.Ranges.{seen-in}
+use Rattle.line_receiver.proofs.Shape as shapes
+use Rattle.line_receiver.proofs.Shape.{Shape, shape}
+use Rattle.line_receiver.proofs.Kept.{keeps, runs-keep}
+use Rattle.line_receiver.proofs.Followed.{other-phase, At, same-listened, follows-one}
 
 -- ---- the byte that ends it
 

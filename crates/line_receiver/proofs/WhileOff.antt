@@ -3,18 +3,18 @@ use mathlib.Core.Path.{_≡_, refl, sym, ap, _∙_}
 use mathlib.Core.Bool.{false}
 use mathlib.Core.List.{List, [], _∷_}
 use Prim.Native.Nat.{ℕ, _<_}
-use Rattle.parity.specs.Parity.{even, withParity}
-use Rattle.codes.specs.Codes.{plainly}
-use Rattle.codes.proofs.Removed.{plain-back, plain-odd}
-use Rattle.phases.specs.declared.Phase.the-variants.{Off}
-use Rattle.receiver.specs.declared.Receiver.{Receiver}
-use Rattle.receiver.specs.declared.Judged.the-variants.{Nothing}
-use Rattle.receiver.specs.declared.Stepped.{Stepped}
-use Rattle.receiver.specs.States.{InRange, newReceiver}
-use Rattle.receiver.specs.Calls.{passing, stepped}
-use Rattle.receiver.specs.Runs.{sentBy}
-use Rattle.receiver.specs.Page.{passes}
-use Rattle.receiver.proofs.Cases.{step-in}
+use Rattle.block_parity.specs.Parity.{even, withParity}
+use Rattle.line_codes.specs.Codes.{plainly}
+use Rattle.line_codes.proofs.Removed.{plain-back, plain-odd}
+use Rattle.line_phases.specs.declared.Phase.the-variants.{Off}
+use Rattle.line_receiver.specs.declared.Receiver.{Receiver}
+use Rattle.line_receiver.specs.declared.Judged.the-variants.{Nothing}
+use Rattle.line_receiver.specs.declared.Stepped.{Stepped}
+use Rattle.line_receiver.specs.States.{InRange, newReceiver}
+use Rattle.line_receiver.specs.Calls.{passing, stepped}
+use Rattle.line_receiver.specs.Runs.{sentBy}
+use Rattle.line_receiver.specs.Page.{passes}
+use Rattle.line_receiver.proofs.Cases.{step-in}
 
 -- "A new receiver is off, number 0, nothing held or seen"
 pub new-off : (newReceiver .phase ≡ Off) × (newReceiver .number ≡ 0) × (newReceiver .count ≡ 0)

@@ -8,25 +8,25 @@ use native.Mathlib.Omega.{arith}
 use lib.ListN.{length, getD, take, drop, length-map}
 use lib.Seq.{length-take-le, take-at, drop-at, split-at, drop-cons}
 use Rattle.values.specs.Large.{Values}
-use Rattle.validity.specs.Changed.{same}
-use Rattle.validity.specs.Block.{Valid}
-use Rattle.maker.specs.Making.{blockOf}
-use Rattle.reader.specs.Claims.{NoneNear}
-use Rattle.reader.proofs.Verdicts.{twice-none}
-use Rattle.codes.specs.Codes.{syn, four, request, Nowhere}
-use Rattle.phases.specs.declared.Phase.the-variants.{Collecting, Waiting}
-use Rattle.receiver.specs.declared.Receiver.{Receiver}
-use Rattle.receiver.specs.declared.Stepped.{Stepped}
-use Rattle.receiver.specs.States.{InRange, emptied}
-use Rattle.receiver.specs.Runs.{byte, on, sentBy, sent, allPassed, allAsked}
-use Rattle.receiver.specs.Line.{Twice, twice, Sending, through, resent}
-use Rattle.receiver.specs.Line.{blocksFor, fifteens, madeOf, filled, joined, Arrives, nothingMore}
-use Rattle.receiver.specs.Line.{blockThen}
-use Rattle.receiver.proofs.Kept.{on-afresh}
-use Rattle.receiver.proofs.Fifteens.{Cut, values, cut, cut-take, cut-drop, block-valid, fifteens-length}
-use Rattle.receiver.proofs.Fifteens.{map-take, map-drop, values-filled, first-values, both-values}
-use Rattle.receiver.proofs.Heard.{Hears, behind, blocks-heard, refused-heard, noise-heard}
-use Rattle.receiver.proofs.Heard.{resumption-heard}
+use Rattle.block_validity.specs.Changed.{same}
+use Rattle.block_validity.specs.Block.{Valid}
+use Rattle.block_maker.specs.Making.{blockOf}
+use Rattle.block_reader.specs.Claims.{NoneNear}
+use Rattle.block_reader.proofs.Verdicts.{twice-none}
+use Rattle.line_codes.specs.Codes.{syn, four, request, Nowhere}
+use Rattle.line_phases.specs.declared.Phase.the-variants.{Collecting, Waiting}
+use Rattle.line_receiver.specs.declared.Receiver.{Receiver}
+use Rattle.line_receiver.specs.declared.Stepped.{Stepped}
+use Rattle.line_receiver.specs.States.{InRange, emptied}
+use Rattle.line_receiver.specs.Runs.{byte, on, sentBy, sent, allPassed, allAsked}
+use Rattle.line_receiver.specs.Line.{Twice, twice, Sending, through, resent}
+use Rattle.line_receiver.specs.Line.{blocksFor, fifteens, madeOf, filled, joined, Arrives, nothingMore}
+use Rattle.line_receiver.specs.Line.{blockThen}
+use Rattle.line_receiver.proofs.Kept.{on-afresh}
+use Rattle.line_receiver.proofs.Fifteens.{Cut, values, cut, cut-take, cut-drop, block-valid, fifteens-length}
+use Rattle.line_receiver.proofs.Fifteens.{map-take, map-drop, values-filled, first-values, both-values}
+use Rattle.line_receiver.proofs.Heard.{Hears, behind, blocks-heard, refused-heard, noise-heard}
+use Rattle.line_receiver.proofs.Heard.{resumption-heard}
 
 -- heard by a receiver just switched on
 module _ (r : Receiver) (g : InRange r) where

@@ -2,8 +2,8 @@
 -- nothing.
 use mathlib.Core.Path.{_≡_}
 use lib.ListN.{length, take}
-use Rattle.receiver.specs.declared.Receiver.{Receiver}
-use Rattle.receiver.specs.declared.Stepped.{Stepped}
+use Rattle.line_receiver.specs.declared.Receiver.{Receiver}
+use Rattle.line_receiver.specs.declared.Stepped.{Stepped}
 
 pub record Alike (r q : Receiver) : Type 0 where
   pub arrays : (length (r .held) ≡ 17) × (length (q .held) ≡ 17)

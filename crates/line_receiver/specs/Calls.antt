@@ -3,21 +3,21 @@ use mathlib.Core.Bool.{Bool, true, false, cond}
 use mathlib.Core.List.{List, [], _∷_, _++_}
 use Prim.Native.Nat.{ℕ, _+_, _-_}
 use lib.ListN.{length, set, replicate}
-use Rattle.maker.specs.Making.{valuesOf}
-use Rattle.reader.specs.declared.Verdict.{Verdict}
-use Rattle.reader.specs.declared.Verdict.the-variants.{Clean, Mended, Repeat, WrongLength}
-use Rattle.reader.specs.Judging.{verdict, left}
-use Rattle.codes.specs.declared.Listened.{Listened}
-use Rattle.codes.specs.declared.Listened.the-variants.{Seen, Resumed}
-use Rattle.phases.specs.Phases.{awaitsMore}
-use Rattle.codes.specs.Codes.{plainly, next, request, listened}
-use Rattle.phases.specs.declared.Phase.{Phase}
-use Rattle.phases.specs.declared.Phase.the-variants.{Off, Collecting, Waiting}
-use Rattle.receiver.specs.declared.Receiver.{Receiver}
-use Rattle.receiver.specs.declared.Judged.{Judged}
-use Rattle.receiver.specs.declared.Judged.the-variants.{Nothing, Block}
-use Rattle.receiver.specs.declared.Stepped.{Stepped}
-use Rattle.receiver.specs.States.{inRange, emptied}
+use Rattle.block_maker.specs.Making.{valuesOf}
+use Rattle.block_reader.specs.declared.Verdict.{Verdict}
+use Rattle.block_reader.specs.declared.Verdict.the-variants.{Clean, Mended, Repeat, WrongLength}
+use Rattle.block_reader.specs.Judging.{verdict, left}
+use Rattle.line_codes.specs.declared.Listened.{Listened}
+use Rattle.line_codes.specs.declared.Listened.the-variants.{Seen, Resumed}
+use Rattle.line_phases.specs.Phases.{awaitsMore}
+use Rattle.line_codes.specs.Codes.{plainly, next, request, listened}
+use Rattle.line_phases.specs.declared.Phase.{Phase}
+use Rattle.line_phases.specs.declared.Phase.the-variants.{Off, Collecting, Waiting}
+use Rattle.line_receiver.specs.declared.Receiver.{Receiver}
+use Rattle.line_receiver.specs.declared.Judged.{Judged}
+use Rattle.line_receiver.specs.declared.Judged.the-variants.{Nothing, Block}
+use Rattle.line_receiver.specs.declared.Stepped.{Stepped}
+use Rattle.line_receiver.specs.States.{inRange, emptied}
 
 -- ---- what a call hands back
 

@@ -3,11 +3,11 @@ use mathlib.Core.Path.{_≡_}
 use mathlib.Core.List.{List, [], _∷_, _++_, map}
 use Prim.Native.Nat.{ℕ, zero, suc, _+_, _-_, _*_, _/_, _%_, _<_}
 use lib.ListN.{length, take, drop, replicate}
-use Rattle.validity.specs.Changed.{flip, Near}
-use Rattle.maker.specs.Making.{blockOf}
-use Rattle.reader.specs.Judging.{mendable}
-use Rattle.reader.specs.Claims.{NoneNear}
-use Rattle.codes.specs.Codes.{syn, four, request, Nowhere}
+use Rattle.block_validity.specs.Changed.{flip, Near}
+use Rattle.block_maker.specs.Making.{blockOf}
+use Rattle.block_reader.specs.Judging.{mendable}
+use Rattle.block_reader.specs.Claims.{NoneNear}
+use Rattle.line_codes.specs.Codes.{syn, four, request, Nowhere}
 
 -- how many blocks the values take
 abbrev pub blocksFor : List ℕ → ℕ

@@ -5,14 +5,14 @@ use mathlib.Core.Path.{_≡_}
 use mathlib.Core.List.{List, [], _∷_, _++_}
 use Prim.Native.Nat.{ℕ, _+_, _%_, _<_}
 use lib.ListN.{length, replicate}
-use Rattle.maker.specs.Making.{valuesOf}
-use Rattle.reader.specs.declared.Verdict.the-variants.{Repeat}
-use Rattle.reader.specs.Judging.{verdict}
-use Rattle.reader.specs.Claims.{NoneNear, OnlyNear}
-use Rattle.codes.specs.Codes.{plainly, request, Ends}
-use Rattle.receiver.specs.declared.Judged.{Judged}
-use Rattle.receiver.specs.declared.Judged.the-variants.{Nothing, Block}
-use Rattle.receiver.specs.Runs.{Event, byte, on, off, ask, Sent}
+use Rattle.block_maker.specs.Making.{valuesOf}
+use Rattle.block_reader.specs.declared.Verdict.the-variants.{Repeat}
+use Rattle.block_reader.specs.Judging.{verdict}
+use Rattle.block_reader.specs.Claims.{NoneNear, OnlyNear}
+use Rattle.line_codes.specs.Codes.{plainly, request, Ends}
+use Rattle.line_receiver.specs.declared.Judged.{Judged}
+use Rattle.line_receiver.specs.declared.Judged.the-variants.{Nothing, Block}
+use Rattle.line_receiver.specs.Runs.{Event, byte, on, off, ask, Sent}
 
 -- ---- what goes out
 

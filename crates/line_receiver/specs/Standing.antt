@@ -2,13 +2,13 @@
 use Prim.Native.Nat.{ℕ}
 use mathlib.Core.Path.{_≡_}
 use lib.ListN.{length, take, replicate}
-use Rattle.codes.specs.Codes.{syn}
-use Rattle.phases.specs.declared.Phase.{Phase}
-use Rattle.phases.specs.declared.Phase.the-variants.{Off, Collecting, Waiting}
-use Rattle.receiver.specs.declared.Receiver.{Receiver}
-use Rattle.receiver.specs.declared.Judged.the-variants.{Nothing}
-use Rattle.receiver.specs.Runs.{Sent}
-use Rattle.receiver.specs.Page.{nothing, asks, Stand, idle, midway, awaiting}
+use Rattle.line_codes.specs.Codes.{syn}
+use Rattle.line_phases.specs.declared.Phase.{Phase}
+use Rattle.line_phases.specs.declared.Phase.the-variants.{Off, Collecting, Waiting}
+use Rattle.line_receiver.specs.declared.Receiver.{Receiver}
+use Rattle.line_receiver.specs.declared.Judged.the-variants.{Nothing}
+use Rattle.line_receiver.specs.Runs.{Sent}
+use Rattle.line_receiver.specs.Page.{nothing, asks, Stand, idle, midway, awaiting}
 
 -- a state handed in stands as though what it holds, or the codes that it has seen, had just arrived
 abbrev pub standIn : Phase → Receiver → Stand

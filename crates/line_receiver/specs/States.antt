@@ -4,9 +4,9 @@ use mathlib.Core.Bool.{Bool, true, false, not}
 use Prim.Native.Nat.{ℕ}
 use lib.ListN.{length, replicate}
 use Rattle.numbers.specs.Numbers.{Conditions, refusable}
-use Rattle.phases.specs.declared.Phase.{Phase}
-use Rattle.phases.specs.Phases.{atStart, inRange as allInRange}
-use Rattle.receiver.specs.declared.Receiver.{Receiver}
+use Rattle.line_phases.specs.declared.Phase.{Phase}
+use Rattle.line_phases.specs.Phases.{atStart, inRange as allInRange}
+use Rattle.line_receiver.specs.declared.Receiver.{Receiver}
 
 abbrev pub inRange : Receiver → Bool
 inRange r = allInRange (r .number) (r .count) (r .phase)

@@ -9,19 +9,19 @@
 // line's side, without a receiver, specs/Standing ties a receiver to it, and proofs/ shows that the two agree at every
 // moment of every run.
 ghost use mathlib.Core.Path.{_≡_};
-ghost use Rattle.receiver.specs.States.{newReceiver};
-ghost use Rattle.receiver.specs.Calls.{stepped, switchedTo, switchedOn, switchedOff, askedAgain};
+ghost use Rattle.line_receiver.specs.States.{newReceiver};
+ghost use Rattle.line_receiver.specs.Calls.{stepped, switchedTo, switchedOn, switchedOff, askedAgain};
 
 mod outcomes;
 mod requests;
 mod states;
 mod while_on;
 
+use block_reader::Verdict;
+pub use line_phases::Phase;
 use outcomes::pass;
 use outcomes::refuse;
 use outcomes::silent;
-pub use phases::Phase;
-use reader::Verdict;
 use requests::again;
 use states::emptied;
 pub use states::in_range;
@@ -75,7 +75,7 @@ impl Receiver {
                 Phase::Off => pass(self, byte),
                 Phase::Collecting => collect(self, byte),
                 Phase::Waiting(seen) => silent(
-                    hear(self, codes::listen(self.number, seen, byte)),
+                    hear(self, line_codes::listen(self.number, seen, byte)),
                     0,
                 ),
             }

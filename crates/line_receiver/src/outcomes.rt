@@ -1,9 +1,9 @@
 // What a call hands back where nothing is judged or asked: no value, one, or a broken state.
 ghost use mathlib.Core.Path.{_≡_};
 ghost use mathlib.Core.List.{[]};
-ghost use Rattle.codes.specs.Codes.{plainly};
-ghost use Rattle.receiver.specs.declared.Judged.the-variants.{Nothing};
-ghost use Rattle.receiver.specs.Calls.{giving, refused, passing};
+ghost use Rattle.line_codes.specs.Codes.{plainly};
+ghost use Rattle.line_receiver.specs.declared.Judged.the-variants.{Nothing};
+ghost use Rattle.line_receiver.specs.Calls.{giving, refused, passing};
 use crate::Judged;
 use crate::Receiver;
 use crate::Stepped;
@@ -35,7 +35,7 @@ pub(crate) fn pass(next: Receiver, byte: u8) -> Stepped
     ensures { λ r. ⌜ r ≡ passing next (plainly byte) ⌝ }
 {
     let mut values = [0u8; 15];
-    values[0] = codes::plain(byte);
+    values[0] = line_codes::plain(byte);
     Stepped {
         next: next,
         answer: 0,

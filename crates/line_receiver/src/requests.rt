@@ -1,8 +1,8 @@
 // The request for the block awaited, when it is refused and when the host asks again.
 ghost use mathlib.Core.Path.{_≡_};
 ghost use mathlib.Core.List.{[]};
-ghost use Rattle.codes.specs.Codes.{request as requestFor};
-ghost use Rattle.receiver.specs.Calls.{giving, asking};
+ghost use Rattle.line_codes.specs.Codes.{request as requestFor};
+ghost use Rattle.line_receiver.specs.Calls.{giving, asking};
 use crate::Judged;
 use crate::Receiver;
 use crate::Stepped;
@@ -10,7 +10,7 @@ use crate::Stepped;
 pub(crate) fn ask(next: Receiver, judged: Judged) -> Stepped
     ensures { λ r. ⌜ r ≡ giving 0 next [] (requestFor (next .number)) judged ⌝ }
 {
-    let request = codes::request(next.number);
+    let request = line_codes::request(next.number);
     Stepped {
         next: next,
         answer: 0,

@@ -1,6 +1,6 @@
 // States: whether one lies within its ranges, and one with nothing held.
 ghost use mathlib.Core.Path.{_≡_};
-ghost use Rattle.receiver.specs.States.{inRange, emptied as emptiedState};
+ghost use Rattle.line_receiver.specs.States.{inRange, emptied as emptiedState};
 use crate::Phase;
 use crate::Receiver;
 
@@ -8,7 +8,7 @@ pub fn in_range(r: Receiver) -> bool
     ensures { λ o. ⌜ o ≡ inRange r ⌝ }
 {
     let phase = r.phase;
-    phases::in_range(r.number, r.count, phase)
+    line_phases::in_range(r.number, r.count, phase)
 }
 
 pub(crate) fn emptied(number: u8, phase: Phase) -> Receiver

@@ -1,6 +1,6 @@
 // What a byte does while the receiver is on.
 ghost use mathlib.Core.Path.{_≡_};
-ghost use Rattle.receiver.specs.Calls.{accepts as acceptsAs, judgedHeld, collecting, listening};
+ghost use Rattle.line_receiver.specs.Calls.{accepts as acceptsAs, judgedHeld, collecting, listening};
 use crate::Judged;
 use crate::Phase;
 use crate::Receiver;
@@ -8,8 +8,8 @@ use crate::Stepped;
 use crate::outcomes::silent;
 use crate::requests::ask;
 use crate::states::emptied;
-use codes::Listened;
-use reader::Verdict;
+use block_reader::Verdict;
+use line_codes::Listened;
 
 // Whether a block is accepted: clean or mended.
 fn accepts(verdict: Verdict) -> bool
@@ -30,13 +30,13 @@ fn judge_held(r: Receiver, byte: u8) -> Stepped
 {
     let mut arrived = r.held;
     arrived[16] = byte;
-    let verdict = reader::mend(&mut arrived[..]);
-    let after = codes::next_number(r.number);
+    let verdict = block_reader::mend(&mut arrived[..]);
+    let after = line_codes::next_number(r.number);
     if accepts(verdict) {
         return Stepped {
             next: emptied(after, Phase::Collecting),
             answer: 0,
-            values: maker::values(arrived),
+            values: block_maker::values(arrived),
             passed: 15,
             request: [0; 2],
             asked: 0,
@@ -51,7 +51,7 @@ pub(crate) fn collect(r: Receiver, byte: u8) -> Stepped
     ensures { λ s. ⌜ s ≡ collecting r byte ⌝ }
 {
     let count = r.count;
-    if phases::awaits_more(count) {
+    if line_phases::awaits_more(count) {
         let mut next = r;
         next.held[count] = byte;
         next.count = count + 1;

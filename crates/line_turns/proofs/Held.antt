@@ -10,22 +10,22 @@ use lib.ListN.{length, take, getD, set, replicate}
 use lib.Seq.{paste, paste-zero, paste-suc, take-suc, take-all, length-take-le}
 use borrow.Author.Tests.{ltb-true, lt-ltb, le-ltb}
 use Rattle.laws.proofs.Computed.{fails, holds, is-true, and-left, and-right, chosen}
-use Rattle.phases.specs.Phases.{awaitsMore, seenInRange}
-use Rattle.phases.specs.declared.Phase.{Phase}
-use Rattle.phases.specs.declared.Phase.the-variants.{Off, Collecting, Waiting}
-use Rattle.receiver.specs.declared.Receiver.{Receiver}
-use Rattle.receiver.specs.declared.Stepped.{Stepped}
-use Rattle.receiver.specs.States.{inRange}
-use Rattle.receiver.specs.Calls.{silent, refused, holding, judgedHeld, byPhase, stepped}
-use Rattle.receiver.specs.Runs.{Event, byte, run, Sent, sentBy, sent}
-use Rattle.receiver.specs.Page.{nothing}
-use Rattle.receiver.proofs.Fifteens.{take-short}
-use Rattle.receiver.proofs.Kept.{run-append, sent-append}
-use Rattle.receiver.proofs.Ranges.{in-range, number-in}
-use Rattle.turns.specs.Notes.{noteOn, noteOf, notesOf}
-use Rattle.turns.specs.Turns.{holdsIn, holdsMore, onlyHeld, behind, heldOf, filled, oneMore, still, turnOf}
-use Rattle.turns.specs.declared.Turn.{Turn}
-use Rattle.turns.specs.declared.holding.Held.{Held}
+use Rattle.line_phases.specs.Phases.{awaitsMore, seenInRange}
+use Rattle.line_phases.specs.declared.Phase.{Phase}
+use Rattle.line_phases.specs.declared.Phase.the-variants.{Off, Collecting, Waiting}
+use Rattle.line_receiver.specs.declared.Receiver.{Receiver}
+use Rattle.line_receiver.specs.declared.Stepped.{Stepped}
+use Rattle.line_receiver.specs.States.{inRange}
+use Rattle.line_receiver.specs.Calls.{silent, refused, holding, judgedHeld, byPhase, stepped}
+use Rattle.line_receiver.specs.Runs.{Event, byte, run, Sent, sentBy, sent}
+use Rattle.line_receiver.specs.Page.{nothing}
+use Rattle.line_receiver.proofs.Fifteens.{take-short}
+use Rattle.line_receiver.proofs.Kept.{run-append, sent-append}
+use Rattle.line_receiver.proofs.Ranges.{in-range, number-in}
+use Rattle.line_turns.specs.Notes.{noteOn, noteOf, notesOf}
+use Rattle.line_turns.specs.Turns.{holdsIn, holdsMore, onlyHeld, behind, heldOf, filled, oneMore, still, turnOf}
+use Rattle.line_turns.specs.declared.Turn.{Turn}
+use Rattle.line_turns.specs.declared.holding.Held.{Held}
 
 -- ---- one byte
 

@@ -3,16 +3,16 @@ use mathlib.Core.Path.{_≡_, refl}
 use mathlib.Core.List.{[], _∷_}
 use Prim.Native.Nat.{ℕ, _+_, _<_}
 use native.Mathlib.Omega.{arith}
-use Rattle.division.specs.Division.{lowBits, bits, reduce, divide}
-use Rattle.parity.specs.Parity.{ones, even, allEven, withParity}
-use Rattle.validity.specs.Block.{codeBits, remainder, valid}
-use Rattle.validity.specs.Changed.{flip}
-use Rattle.reader.specs.declared.Verdict.the-variants.{Mended}
-use Rattle.reader.specs.Judging.{tryFrom, verdict, left}
-use Rattle.phases.specs.declared.Phase.the-variants.{Off, Collecting}
-use Rattle.receiver.specs.States.{emptied}
-use Rattle.turns.specs.Notes.{verdictNote, notesOf}
-use Rattle.turns.specs.Card.{recorded, notedDown}
+use Rattle.block_division.specs.Division.{lowBits, bits, reduce, divide}
+use Rattle.block_parity.specs.Parity.{ones, even, allEven, withParity}
+use Rattle.block_validity.specs.Block.{codeBits, remainder, valid}
+use Rattle.block_validity.specs.Changed.{flip}
+use Rattle.block_reader.specs.declared.Verdict.the-variants.{Mended}
+use Rattle.block_reader.specs.Judging.{tryFrom, verdict, left}
+use Rattle.line_phases.specs.declared.Phase.the-variants.{Off, Collecting}
+use Rattle.line_receiver.specs.States.{emptied}
+use Rattle.line_turns.specs.Notes.{verdictNote, notesOf}
+use Rattle.line_turns.specs.Card.{recorded, notedDown}
 
 pub as-written : notesOf (emptied 0 Collecting) recorded ≡ notedDown
 unfolding lowBits bits reduce divide ones even allEven withParity codeBits remainder valid flip tryFrom verdict left

@@ -10,20 +10,20 @@ use lib.ListN.{length, take, getD, replicate}
 use lib.Seq.{take-suc, length-take-le}
 use borrow.Author.Tests.{ltb-true, ltb-false, lt-ltb}
 use Rattle.laws.proofs.Computed.{chosen}
-use Rattle.phases.specs.Phases.{awaitsMore}
-use Rattle.phases.specs.declared.Phase.the-variants.{Collecting}
-use Rattle.receiver.specs.declared.Receiver.{Receiver}
-use Rattle.receiver.specs.States.{emptied}
-use Rattle.receiver.specs.Calls.{stepped}
-use Rattle.receiver.specs.Runs.{Event, byte, run, Sent, sentBy, sent, allPassed, allAsked}
-use Rattle.receiver.specs.Page.{nothing}
-use Rattle.receiver.proofs.Asked.{asked-counted, passed-few}
-use Rattle.receiver.proofs.Kept.{run-append, sent-append}
-use Rattle.receiver.proofs.Ranges.{in-range}
-use Rattle.turns.specs.declared.Turn.{Turn}
-use Rattle.turns.specs.Notes.{noteOf, notesOf}
-use Rattle.turns.specs.Turns.{onlyHeld, behind, oneMore, still, turnOf, TakenSingly}
-use Rattle.turns.proofs.Held.{HeldOnly, one-copy, notes-append, counted, few-there, held-all}
+use Rattle.line_phases.specs.Phases.{awaitsMore}
+use Rattle.line_phases.specs.declared.Phase.the-variants.{Collecting}
+use Rattle.line_receiver.specs.declared.Receiver.{Receiver}
+use Rattle.line_receiver.specs.States.{emptied}
+use Rattle.line_receiver.specs.Calls.{stepped}
+use Rattle.line_receiver.specs.Runs.{Event, byte, run, Sent, sentBy, sent, allPassed, allAsked}
+use Rattle.line_receiver.specs.Page.{nothing}
+use Rattle.line_receiver.proofs.Asked.{asked-counted, passed-few}
+use Rattle.line_receiver.proofs.Kept.{run-append, sent-append}
+use Rattle.line_receiver.proofs.Ranges.{in-range}
+use Rattle.line_turns.specs.declared.Turn.{Turn}
+use Rattle.line_turns.specs.Notes.{noteOf, notesOf}
+use Rattle.line_turns.specs.Turns.{onlyHeld, behind, oneMore, still, turnOf, TakenSingly}
+use Rattle.line_turns.proofs.Held.{HeldOnly, one-copy, notes-append, counted, few-there, held-all}
 
 no-values : (k : ℕ) (os : List Sent) → allPassed (replicate k nothing ++ os) ≡ allPassed os
 no-values zero os = refl

@@ -6,17 +6,17 @@ use Prim.Native.Nat.{ℕ, _+_, _-_, _≤_, _<_}
 use lib.Dec.{ltb}
 use lib.ListN.{length, take, getD, replicate}
 use lib.Seq.{paste}
-use Rattle.phases.specs.Phases.{awaitsMore}
-use Rattle.phases.specs.declared.Phase.{Phase}
-use Rattle.phases.specs.declared.Phase.the-variants.{Off, Collecting, Waiting}
-use Rattle.receiver.specs.declared.Receiver.{Receiver}
-use Rattle.receiver.specs.declared.Stepped.{Stepped}
-use Rattle.receiver.specs.States.{inRange}
-use Rattle.receiver.specs.Calls.{silent, stepped}
-use Rattle.receiver.specs.Runs.{byte, run, sentBy, sent, allPassed, allAsked}
-use Rattle.turns.specs.declared.Turn.{Turn}
-use Rattle.turns.specs.declared.holding.Held.{Held}
-use Rattle.turns.specs.Notes.{noteOf, notesOf}
+use Rattle.line_phases.specs.Phases.{awaitsMore}
+use Rattle.line_phases.specs.declared.Phase.{Phase}
+use Rattle.line_phases.specs.declared.Phase.the-variants.{Off, Collecting, Waiting}
+use Rattle.line_receiver.specs.declared.Receiver.{Receiver}
+use Rattle.line_receiver.specs.declared.Stepped.{Stepped}
+use Rattle.line_receiver.specs.States.{inRange}
+use Rattle.line_receiver.specs.Calls.{silent, stepped}
+use Rattle.line_receiver.specs.Runs.{byte, run, sentBy, sent, allPassed, allAsked}
+use Rattle.line_turns.specs.declared.Turn.{Turn}
+use Rattle.line_turns.specs.declared.holding.Held.{Held}
+use Rattle.line_turns.specs.Notes.{noteOf, notesOf}
 
 -- ---- bytes that are only held
 

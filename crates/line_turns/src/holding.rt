@@ -2,9 +2,9 @@
 ghost use mathlib.Core.Path.{_≡_};
 ghost use Prim.Native.Nat.{_+_, _≤_};
 ghost use lib.ListN.{length};
-ghost use Rattle.turns.specs.Turns.{holdsMore, filled, heldOf};
-use receiver::Phase;
-use receiver::Receiver;
+ghost use Rattle.line_turns.specs.Turns.{holdsMore, filled, heldOf};
+use line_receiver::Phase;
+use line_receiver::Receiver;
 
 // A receiver behind bytes that it only held, and how many they are.
 pub(crate) struct Held {
@@ -20,8 +20,8 @@ fn is_holding(r: Receiver) -> bool
     match phase {
         Phase::Off => false,
         Phase::Collecting => {
-            if receiver::in_range(r) {
-                phases::awaits_more(r.count)
+            if line_receiver::in_range(r) {
+                line_phases::awaits_more(r.count)
             } else {
                 false
             }

@@ -5,16 +5,16 @@
 // so that a night book needs no receiver of its own. specs/Turns says what a turn is, specs/Notes what the notes are,
 // and proofs/Steps shows that a turn comes to what single steps do.
 ghost use mathlib.Core.Path.{_≡_};
-ghost use Rattle.turns.specs.Turns.{still, turnOf};
+ghost use Rattle.line_turns.specs.Turns.{still, turnOf};
 
 mod holding;
 mod notes;
 
 use holding::hold;
+use line_receiver::Judged;
+use line_receiver::Receiver;
+use line_receiver::Stepped;
 use notes::note_on;
-use receiver::Judged;
-use receiver::Receiver;
-use receiver::Stepped;
 
 // What the bytes of a turn come to.
 pub struct Turn {

@@ -1,10 +1,10 @@
 // A note on a byte: what it was to the receiver.
 ghost use mathlib.Core.Path.{_≡_};
-ghost use Rattle.turns.specs.Notes.{verdictNote, waitNote, silentNote, noteOn};
-use reader::Verdict;
-use receiver::Judged;
-use receiver::Phase;
-use receiver::Stepped;
+ghost use Rattle.line_turns.specs.Notes.{verdictNote, waitNote, silentNote, noteOn};
+use block_reader::Verdict;
+use line_receiver::Judged;
+use line_receiver::Phase;
+use line_receiver::Stepped;
 
 // On the seventeenth byte of a block: the verdict. A bit is below 128, so that nothing is lost.
 fn verdict_note(verdict: Verdict) -> u8

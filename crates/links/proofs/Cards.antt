@@ -1,11 +1,11 @@
 -- The cards of the links, computed. Assumes nothing.
 use mathlib.Core.Path.{refl}
 use mathlib.Core.List.{List, [], _∷_, _++_}
-use Rattle.wiring.specs.Tables.{selfLinked}
-use Rattle.replies.specs.Replies.{statusOf, replyOf}
-use Rattle.hearing.specs.Hearing.{heard, inRange as sequenceInRange}
-use Rattle.linking.specs.Linking.{linked}
-use Rattle.sending.specs.Sending.{obeyed}
+use Rattle.links_wiring.specs.Tables.{selfLinked}
+use Rattle.links_replies.specs.Replies.{statusOf, replyOf}
+use Rattle.links_hearing.specs.Hearing.{heard, inRange as sequenceInRange}
+use Rattle.links_changes.specs.Linking.{linked}
+use Rattle.links_sending.specs.Sending.{obeyed}
 use Rattle.links.specs.States.{inRange}
 use Rattle.links.specs.Calls.{choosing, taking, fromEar, fromKeyboard}
 use Rattle.links.specs.Cards.{Card, EachHolds, asking, setting, clearing, selves, unknown, pairs, apart, typed}

@@ -1,10 +1,10 @@
 -- The two standard tables: the links begin with one of them, and the host chooses between them. Assumes nothing.
 use mathlib.Core.Path.{_≡_}
 use mathlib.Core.List.{[], _∷_}
-use Rattle.wiring.specs.Tables.{localTable, connectedTable}
-use Rattle.replies.specs.Replies.{statusesOf}
-use Rattle.replies.proofs.Statuses.{local-statuses, connected-statuses}
-use Rattle.sending.specs.Sending.{silence}
+use Rattle.links_wiring.specs.Tables.{localTable, connectedTable}
+use Rattle.links_replies.specs.Replies.{statusesOf}
+use Rattle.links_replies.proofs.Statuses.{local-statuses, connected-statuses}
+use Rattle.links_sending.specs.Sending.{silence}
 use Rattle.links.specs.declared.Links.{Links}
 use Rattle.links.specs.States.{localLinks, connectedLinks}
 use Rattle.links.specs.Calls.{taken, withTable}

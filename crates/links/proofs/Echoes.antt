@@ -7,23 +7,23 @@ use native.Mathlib.Omega.{arith}
 use lib.ListN.{getD, take}
 use Rattle.values.specs.Large.{Values}
 use Rattle.values.proofs.Found.{values-head, values-tail}
-use Rattle.wiring.specs.declared.Module.{Module}
-use Rattle.wiring.specs.declared.Table.{Table}
-use Rattle.wiring.specs.Modules.{receiverCode}
-use Rattle.replies.specs.Replies.{statusOf, replyOf}
-use Rattle.replies.proofs.Statuses.{reply-small}
-use Rattle.commands.specs.declared.Order.the-variants.{Nothing}
-use Rattle.commands.specs.Commands.{pro3, spelled}
-use Rattle.commands.proofs.Echoes.{reply-ordered}
-use Rattle.hearing.specs.declared.Unfinished.{Unfinished}
-use Rattle.hearing.specs.declared.Unfinished.the-variants.{Free}
-use Rattle.hearing.specs.Hearing.{heard, leftAfter}
-use Rattle.hearing.proofs.Spelling.{over}
-use Rattle.sending.proofs.Echoes.{reply-spelled}
+use Rattle.links_wiring.specs.declared.Module.{Module}
+use Rattle.links_wiring.specs.declared.Table.{Table}
+use Rattle.links_wiring.specs.Modules.{receiverCode}
+use Rattle.links_replies.specs.Replies.{statusOf, replyOf}
+use Rattle.links_replies.proofs.Statuses.{reply-small}
+use Rattle.links_commands.specs.declared.Order.the-variants.{Nothing}
+use Rattle.links_commands.specs.Commands.{pro3, spelled}
+use Rattle.links_commands.proofs.Echoes.{reply-ordered}
+use Rattle.links_hearing.specs.declared.Unfinished.{Unfinished}
+use Rattle.links_hearing.specs.declared.Unfinished.the-variants.{Free}
+use Rattle.links_hearing.specs.Hearing.{heard, leftAfter}
+use Rattle.links_hearing.proofs.Spelling.{over}
+use Rattle.links_sending.proofs.Echoes.{reply-spelled}
 use Rattle.links.specs.declared.Links.{Links}
 use Rattle.links.specs.declared.Outcome.{Outcome}
-use Rattle.ears.specs.declared.Ear.{Ear}
-use Rattle.ears.specs.declared.Ear.the-variants.{Modem as modem, Socket as socket}
+use Rattle.links_ears.specs.declared.Ear.{Ear}
+use Rattle.links_ears.specs.declared.Ear.the-variants.{Modem as modem, Socket as socket}
 use Rattle.links.specs.States.{unfinished}
 use Rattle.links.specs.Runs.{sameEar, other, Call, value, obey, run, said, gotFrom, InRange, Says, Swallowed}
 use Rattle.links.proofs.Steps.{accepted, own-heard}

@@ -1,18 +1,18 @@
 -- One value sends at most five bytes to any receiver, and none above 127. Assumes nothing.
 use lib.Dec.{ltb}
 use Rattle.laws.proofs.Computed.{chosen}
-use Rattle.wiring.specs.declared.Module.{Module}
-use Rattle.wiring.specs.declared.Module.the-variants.{Keyboard}
-use Rattle.wiring.specs.declared.Table.{Table}
-use Rattle.wiring.specs.Tables.{localTable, connectedTable}
-use Rattle.commands.specs.declared.Order.the-variants.{Pass}
-use Rattle.hearing.specs.Hearing.{heard}
-use Rattle.hearing.proofs.Ranges.{small-order}
-use Rattle.sending.specs.Sending.{partOf, FewIn}
-use Rattle.sending.proofs.Getting.{few-sent, few-silence}
+use Rattle.links_wiring.specs.declared.Module.{Module}
+use Rattle.links_wiring.specs.declared.Module.the-variants.{Keyboard}
+use Rattle.links_wiring.specs.declared.Table.{Table}
+use Rattle.links_wiring.specs.Tables.{localTable, connectedTable}
+use Rattle.links_commands.specs.declared.Order.the-variants.{Pass}
+use Rattle.links_hearing.specs.Hearing.{heard}
+use Rattle.links_hearing.proofs.Ranges.{small-order}
+use Rattle.links_sending.specs.Sending.{partOf, FewIn}
+use Rattle.links_sending.proofs.Getting.{few-sent, few-silence}
 use Rattle.links.specs.declared.Links.{Links}
 use Rattle.links.specs.declared.Outcome.{Outcome}
-use Rattle.ears.specs.Ears.{nameOf}
+use Rattle.links_ears.specs.Ears.{nameOf}
 use Rattle.links.specs.States.{unfinished, inRange}
 use Rattle.links.specs.Calls.{choosing, taking, fromEar, fromKeyboard}
 use Rattle.links.specs.Runs.{Call, key, value, toLocal, toConnected, obey}

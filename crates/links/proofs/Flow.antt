@@ -3,24 +3,24 @@ use mathlib.Core.Path.{_≡_, sym, ap, _∙_}
 use mathlib.Core.Bool.{cond}
 use mathlib.Core.List.{List, [], _∷_}
 use Prim.Native.Nat.{ℕ, _<_}
-use Rattle.wiring.specs.declared.Module.{Module}
-use Rattle.wiring.specs.declared.Module.the-variants.{Keyboard}
-use Rattle.wiring.specs.declared.Table.{Table}
-use Rattle.wiring.specs.Tables.{reaches}
-use Rattle.hearing.specs.declared.Unfinished.{Unfinished}
-use Rattle.hearing.specs.declared.Unfinished.the-variants.{Free}
-use Rattle.commands.specs.declared.Order.{Order}
-use Rattle.commands.specs.declared.Order.the-variants.{Pass, Pair}
-use Rattle.hearing.specs.Hearing.{does, heard}
-use Rattle.hearing.proofs.Spelling.{plain, esc-held, paired}
-use Rattle.sending.specs.Sending.{obeyed, gets}
-use Rattle.sending.proofs.Getting.{pass-goes, pair-goes, table-after}
+use Rattle.links_wiring.specs.declared.Module.{Module}
+use Rattle.links_wiring.specs.declared.Module.the-variants.{Keyboard}
+use Rattle.links_wiring.specs.declared.Table.{Table}
+use Rattle.links_wiring.specs.Tables.{reaches}
+use Rattle.links_hearing.specs.declared.Unfinished.{Unfinished}
+use Rattle.links_hearing.specs.declared.Unfinished.the-variants.{Free}
+use Rattle.links_commands.specs.declared.Order.{Order}
+use Rattle.links_commands.specs.declared.Order.the-variants.{Pass, Pair}
+use Rattle.links_hearing.specs.Hearing.{does, heard}
+use Rattle.links_hearing.proofs.Spelling.{plain, esc-held, paired}
+use Rattle.links_sending.specs.Sending.{obeyed, gets}
+use Rattle.links_sending.proofs.Getting.{pass-goes, pair-goes, table-after}
 use Rattle.links.specs.declared.Links.{Links}
-use Rattle.ears.specs.declared.Ear.{Ear}
-use Rattle.ears.specs.declared.Ear.the-variants.{Modem as modem, Socket as socket}
+use Rattle.links_ears.specs.declared.Ear.{Ear}
+use Rattle.links_ears.specs.declared.Ear.the-variants.{Modem as modem, Socket as socket}
 use Rattle.links.specs.declared.Outcome.{Outcome}
 use Rattle.links.specs.Calls.{taking, fromEar}
-use Rattle.ears.specs.Ears.{nameOf}
+use Rattle.links_ears.specs.Ears.{nameOf}
 use Rattle.links.specs.States.{unfinished, left}
 use Rattle.links.specs.Runs.{Call, key, value, run, InRange, Says, PassedOn, freed}
 use Rattle.links.proofs.Steps.{accepted, key-accepted}

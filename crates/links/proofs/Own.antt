@@ -9,15 +9,15 @@ use borrow.Author.Tests.{le-ltb}
 use Rattle.laws.proofs.Computed.{chosen}
 use Rattle.values.specs.Large.{Values}
 use Rattle.values.proofs.Found.{values-head, values-tail}
-use Rattle.wiring.specs.declared.Table.{Table}
-use Rattle.wiring.specs.Tables.{localTable, connectedTable}
-use Rattle.hearing.specs.declared.Unfinished.{Unfinished}
-use Rattle.hearing.specs.declared.Unfinished.the-variants.{Free}
-use Rattle.hearing.specs.Hearing.{heard, leftAfter}
-use Rattle.hearing.proofs.Spelling.{left-append}
+use Rattle.links_wiring.specs.declared.Table.{Table}
+use Rattle.links_wiring.specs.Tables.{localTable, connectedTable}
+use Rattle.links_hearing.specs.declared.Unfinished.{Unfinished}
+use Rattle.links_hearing.specs.declared.Unfinished.the-variants.{Free}
+use Rattle.links_hearing.specs.Hearing.{heard, leftAfter}
+use Rattle.links_hearing.proofs.Spelling.{left-append}
 use Rattle.links.specs.declared.Links.{Links}
-use Rattle.ears.specs.declared.Ear.{Ear}
-use Rattle.ears.specs.declared.Ear.the-variants.{Modem as modem, Socket as socket}
+use Rattle.links_ears.specs.declared.Ear.{Ear}
+use Rattle.links_ears.specs.declared.Ear.the-variants.{Modem as modem, Socket as socket}
 use Rattle.links.specs.declared.Outcome.{Outcome}
 use Rattle.links.specs.States.{unfinished, inRange, localLinks}
 use Rattle.links.specs.Calls.{choosing, fromEar}

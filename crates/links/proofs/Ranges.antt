@@ -8,19 +8,19 @@ use borrow.Author.Tests.{ltb-false}
 use Rattle.laws.proofs.Computed.{chosen, and-left, and-right, holds, is-true}
 use Rattle.values.specs.Large.{Values}
 use Rattle.values.proofs.Found.{values-none}
-use Rattle.wiring.specs.declared.Table.{Table}
-use Rattle.wiring.specs.Tables.{localTable, connectedTable, selfLinked, NoneItself}
-use Rattle.wiring.proofs.Selves.{tested as selves-tested, passed as selves-passed}
-use Rattle.wiring.proofs.Selves.{local-none, connected-none}
-use Rattle.hearing.specs.declared.Unfinished.{Unfinished}
-use Rattle.hearing.specs.Hearing.{codesOf, inRange as sequenceInRange, heard}
-use Rattle.hearing.proofs.Ranges.{tested as codes-tested, passed as codes-passed, kept as codes-kept}
-use Rattle.sending.proofs.Getting.{still-none-itself}
+use Rattle.links_wiring.specs.declared.Table.{Table}
+use Rattle.links_wiring.specs.Tables.{localTable, connectedTable, selfLinked, NoneItself}
+use Rattle.links_wiring.proofs.Selves.{tested as selves-tested, passed as selves-passed}
+use Rattle.links_wiring.proofs.Selves.{local-none, connected-none}
+use Rattle.links_hearing.specs.declared.Unfinished.{Unfinished}
+use Rattle.links_hearing.specs.Hearing.{codesOf, inRange as sequenceInRange, heard}
+use Rattle.links_hearing.proofs.Ranges.{tested as codes-tested, passed as codes-passed, kept as codes-kept}
+use Rattle.links_sending.proofs.Getting.{still-none-itself}
 use Rattle.links.specs.declared.Links.{Links}
-use Rattle.ears.specs.declared.Ear.{Ear}
-use Rattle.ears.specs.declared.Ear.the-variants.{Modem as modem, Socket as socket}
+use Rattle.links_ears.specs.declared.Ear.{Ear}
+use Rattle.links_ears.specs.declared.Ear.the-variants.{Modem as modem, Socket as socket}
 use Rattle.links.specs.declared.Outcome.{Outcome}
-use Rattle.ears.specs.Ears.{nameOf}
+use Rattle.links_ears.specs.Ears.{nameOf}
 use Rattle.links.specs.States.{unfinished, starting, localLinks, connectedLinks, inRange}
 use Rattle.links.specs.Calls.{withTable, choosing, taking}
 use Rattle.links.specs.Runs.{Call, key, value, toLocal, toConnected, obey, run, InRange}

@@ -7,8 +7,8 @@ use lib.Dec.{ltb}
 use borrow.Author.Tests.{ltb-false}
 use Rattle.laws.proofs.Computed.{fails}
 use Rattle.numbers.specs.Numbers.{toldOf}
-use Rattle.wiring.specs.Tables.{localTable, connectedTable}
-use Rattle.hearing.specs.Hearing.{heard}
+use Rattle.links_wiring.specs.Tables.{localTable, connectedTable}
+use Rattle.links_hearing.specs.Hearing.{heard}
 use Rattle.links.specs.declared.Links.{Links}
 use Rattle.links.specs.declared.Answer.the-variants.{Taken, TooLarge, Broken}
 use Rattle.links.specs.declared.Outcome.{Outcome}

@@ -5,28 +5,28 @@ use mathlib.Core.List.{List, []}
 use Prim.Native.Nat.{ℕ, _+_, _<_}
 use lib.Dec.{ltb}
 use lib.ListN.{length, getD, take}
-use Rattle.wiring.specs.declared.Module.{Module}
-use Rattle.wiring.specs.declared.Table.{Table}
-use Rattle.wiring.specs.Modules.{same, receiverCode, senderCode}
-use Rattle.wiring.specs.Tables.{reaches}
-use Rattle.wiring.proofs.Small.{receiver-small, sender-small}
-use Rattle.replies.specs.Replies.{replyOf}
-use Rattle.hearing.specs.declared.Unfinished.{Unfinished}
-use Rattle.hearing.specs.declared.Unfinished.the-variants.{Free}
-use Rattle.commands.specs.declared.Order.{Order}
-use Rattle.commands.specs.declared.Order.the-variants.{Nothing, Link, Ask}
-use Rattle.hearing.specs.declared.Heard.{Heard}
-use Rattle.commands.specs.Commands.{Command, spelled, beginning, lastOf, ordered, linkCommand, askCommand}
-use Rattle.hearing.specs.Hearing.{codesOf, does, heard}
-use Rattle.commands.proofs.Known.{link-ordered, ask-ordered}
-use Rattle.hearing.proofs.Spelling.{midway, over, ends, waits}
-use Rattle.sending.specs.declared.Sent.{Sent}
-use Rattle.sending.specs.Sending.{obeyed, gets}
-use Rattle.sending.proofs.Getting.{gets-nothing, nothing-sent, link-replied, ask-replied, table-after, pairs-after}
+use Rattle.links_wiring.specs.declared.Module.{Module}
+use Rattle.links_wiring.specs.declared.Table.{Table}
+use Rattle.links_wiring.specs.Modules.{same, receiverCode, senderCode}
+use Rattle.links_wiring.specs.Tables.{reaches}
+use Rattle.links_wiring.proofs.Small.{receiver-small, sender-small}
+use Rattle.links_replies.specs.Replies.{replyOf}
+use Rattle.links_hearing.specs.declared.Unfinished.{Unfinished}
+use Rattle.links_hearing.specs.declared.Unfinished.the-variants.{Free}
+use Rattle.links_commands.specs.declared.Order.{Order}
+use Rattle.links_commands.specs.declared.Order.the-variants.{Nothing, Link, Ask}
+use Rattle.links_hearing.specs.declared.Heard.{Heard}
+use Rattle.links_commands.specs.Commands.{Command, spelled, beginning, lastOf, ordered, linkCommand, askCommand}
+use Rattle.links_hearing.specs.Hearing.{codesOf, does, heard}
+use Rattle.links_commands.proofs.Known.{link-ordered, ask-ordered}
+use Rattle.links_hearing.proofs.Spelling.{midway, over, ends, waits}
+use Rattle.links_sending.specs.declared.Sent.{Sent}
+use Rattle.links_sending.specs.Sending.{obeyed, gets}
+use Rattle.links_sending.proofs.Getting.{gets-nothing, nothing-sent, link-replied, ask-replied, table-after, pairs-after}
 use Rattle.links.specs.declared.Links.{Links}
-use Rattle.ears.specs.declared.Ear.{Ear}
+use Rattle.links_ears.specs.declared.Ear.{Ear}
 use Rattle.links.specs.declared.Outcome.{Outcome}
-use Rattle.ears.specs.Ears.{nameOf}
+use Rattle.links_ears.specs.Ears.{nameOf}
 use Rattle.links.specs.States.{unfinished, inRange}
 use Rattle.links.specs.Calls.{taking, fromEar}
 use Rattle.links.specs.Runs.{other, Call, value, obey, run, Says, Swallowed, Answered}

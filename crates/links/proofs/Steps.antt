@@ -5,19 +5,19 @@ use Prim.Native.Nat.{ℕ, _<_}
 use native.Mathlib.Omega.{arith}
 use lib.Dec.{ltb}
 use borrow.Author.Tests.{le-ltb}
-use Rattle.wiring.specs.declared.Module.the-variants.{Keyboard}
-use Rattle.wiring.specs.declared.Table.{Table}
-use Rattle.commands.specs.declared.Order.the-variants.{Pass}
-use Rattle.hearing.specs.declared.Heard.{Heard}
-use Rattle.hearing.specs.Hearing.{heard}
-use Rattle.sending.specs.Sending.{silence, obeyed}
+use Rattle.links_wiring.specs.declared.Module.the-variants.{Keyboard}
+use Rattle.links_wiring.specs.declared.Table.{Table}
+use Rattle.links_commands.specs.declared.Order.the-variants.{Pass}
+use Rattle.links_hearing.specs.declared.Heard.{Heard}
+use Rattle.links_hearing.specs.Hearing.{heard}
+use Rattle.links_sending.specs.Sending.{silence, obeyed}
 use Rattle.links.specs.declared.Links.{Links}
-use Rattle.ears.specs.declared.Ear.{Ear}
-use Rattle.ears.specs.declared.Ear.the-variants.{Modem as modem, Socket as socket}
+use Rattle.links_ears.specs.declared.Ear.{Ear}
+use Rattle.links_ears.specs.declared.Ear.the-variants.{Modem as modem, Socket as socket}
 use Rattle.links.specs.declared.Answer.the-variants.{Taken}
 use Rattle.links.specs.declared.Outcome.{Outcome}
-use Rattle.ears.specs.Ears.{nameOf}
-use Rattle.ears.proofs.Apart.{owns}
+use Rattle.links_ears.specs.Ears.{nameOf}
+use Rattle.links_ears.proofs.Apart.{owns}
 use Rattle.links.specs.States.{unfinished, inRange}
 use Rattle.links.specs.Calls.{taken, withTable, choosing, withLocal, withConnected, taking, fromEar}
 use Rattle.links.specs.Calls.{fromKeyboard, fromModem, fromSocket}

@@ -6,27 +6,27 @@ use Prim.Native.Nat.{ℕ}
 use lib.Dec.{ltb}
 use Rattle.values.specs.Large.{Values}
 use Rattle.values.proofs.Found.{values-head, values-tail}
-use Rattle.wiring.specs.declared.Module.{Module}
-use Rattle.wiring.specs.declared.Module.the-variants.{Screen}
-use Rattle.wiring.specs.declared.Table.{Table}
-use Rattle.wiring.specs.Modules.{same}
-use Rattle.wiring.specs.Tables.{reaches}
-use Rattle.wiring.proofs.Selves.{reached-apart}
-use Rattle.commands.specs.declared.Order.{Order}
-use Rattle.commands.specs.declared.Order.the-variants.{Nothing, Pass, Pair, Link, Ask}
-use Rattle.hearing.specs.declared.Unfinished.{Unfinished}
-use Rattle.hearing.specs.Hearing.{codesOf, heard}
-use Rattle.hearing.specs.Phrases.{Phrase, alone, AllProper, allValues, allFlowing}
-use Rattle.hearing.proofs.Flowing.{passed as passedOn, flow, flow-append, flows-on}
-use Rattle.replies.specs.Replies.{replyOf}
-use Rattle.sending.specs.declared.Sent.{Sent}
-use Rattle.sending.specs.Sending.{obeyed, gets}
-use Rattle.sending.proofs.Getting.{gets-nothing, nothing-sent, pass-goes, pair-goes, link-replied, ask-replied}
+use Rattle.links_wiring.specs.declared.Module.{Module}
+use Rattle.links_wiring.specs.declared.Module.the-variants.{Screen}
+use Rattle.links_wiring.specs.declared.Table.{Table}
+use Rattle.links_wiring.specs.Modules.{same}
+use Rattle.links_wiring.specs.Tables.{reaches}
+use Rattle.links_wiring.proofs.Selves.{reached-apart}
+use Rattle.links_commands.specs.declared.Order.{Order}
+use Rattle.links_commands.specs.declared.Order.the-variants.{Nothing, Pass, Pair, Link, Ask}
+use Rattle.links_hearing.specs.declared.Unfinished.{Unfinished}
+use Rattle.links_hearing.specs.Hearing.{codesOf, heard}
+use Rattle.links_hearing.specs.Phrases.{Phrase, alone, AllProper, allValues, allFlowing}
+use Rattle.links_hearing.proofs.Flowing.{passed as passedOn, flow, flow-append, flows-on}
+use Rattle.links_replies.specs.Replies.{replyOf}
+use Rattle.links_sending.specs.declared.Sent.{Sent}
+use Rattle.links_sending.specs.Sending.{obeyed, gets}
+use Rattle.links_sending.proofs.Getting.{gets-nothing, nothing-sent, pass-goes, pair-goes, link-replied, ask-replied}
 use Rattle.links.specs.declared.Links.{Links}
-use Rattle.ears.specs.declared.Ear.{Ear}
-use Rattle.ears.specs.declared.Ear.the-variants.{Modem as modem, Socket as socket}
+use Rattle.links_ears.specs.declared.Ear.{Ear}
+use Rattle.links_ears.specs.declared.Ear.the-variants.{Modem as modem, Socket as socket}
 use Rattle.links.specs.declared.Outcome.{Outcome}
-use Rattle.ears.specs.Ears.{nameOf}
+use Rattle.links_ears.specs.Ears.{nameOf}
 use Rattle.links.specs.States.{localLinks, unfinished}
 use Rattle.links.specs.Runs.{Call, key, value, toLocal, toConnected, obey, given, isFrom, saidAt, said, gotFrom}
 use Rattle.links.specs.Runs.{Throughout, InRange, Says}

@@ -5,21 +5,21 @@ use mathlib.Core.List.{[], _∷_}
 use Prim.Native.Nat.{ℕ}
 use lib.Dec.{ltb}
 use Rattle.numbers.specs.Numbers.{Told}
-use Rattle.wiring.specs.declared.Module.the-variants.{Keyboard}
-use Rattle.wiring.specs.declared.Table.{Table}
-use Rattle.wiring.specs.Tables.{localTable, connectedTable}
-use Rattle.commands.specs.declared.Order.the-variants.{Pass}
-use Rattle.hearing.specs.declared.Heard.{Heard}
-use Rattle.hearing.specs.Hearing.{heard}
-use Rattle.sending.specs.declared.Sent.{Sent}
-use Rattle.sending.specs.Sending.{silence, obeyed}
+use Rattle.links_wiring.specs.declared.Module.the-variants.{Keyboard}
+use Rattle.links_wiring.specs.declared.Table.{Table}
+use Rattle.links_wiring.specs.Tables.{localTable, connectedTable}
+use Rattle.links_commands.specs.declared.Order.the-variants.{Pass}
+use Rattle.links_hearing.specs.declared.Heard.{Heard}
+use Rattle.links_hearing.specs.Hearing.{heard}
+use Rattle.links_sending.specs.declared.Sent.{Sent}
+use Rattle.links_sending.specs.Sending.{silence, obeyed}
 use Rattle.links.specs.declared.Links.{Links}
-use Rattle.ears.specs.declared.Ear.{Ear}
-use Rattle.ears.specs.declared.Ear.the-variants.{Modem as modem, Socket as socket}
+use Rattle.links_ears.specs.declared.Ear.{Ear}
+use Rattle.links_ears.specs.declared.Ear.the-variants.{Modem as modem, Socket as socket}
 use Rattle.links.specs.declared.Answer.{Answer}
 use Rattle.links.specs.declared.Answer.the-variants.{Taken, TooLarge, Broken}
 use Rattle.links.specs.declared.Outcome.{Outcome}
-use Rattle.ears.specs.Ears.{nameOf}
+use Rattle.links_ears.specs.Ears.{nameOf}
 use Rattle.links.specs.States.{unfinished, left, inRange}
 
 -- the number of each answer, and what it names: a single value stands at place 0

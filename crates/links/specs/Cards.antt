@@ -5,14 +5,14 @@ use mathlib.Core.Bool.{true, false}
 use mathlib.Core.List.{List, [], _∷_, _++_, map}
 use Prim.Native.Nat.{ℕ}
 use lib.ListN.{take, replicate}
-use Rattle.wiring.specs.declared.Module.{Module}
-use Rattle.wiring.specs.declared.Module.the-variants.{Screen, Keyboard, Modem, Socket}
-use Rattle.wiring.specs.Reading.{allReached}
-use Rattle.hearing.specs.declared.Unfinished.the-variants.{Free, Escape, Pro1, Pro2, Pro2With}
-use Rattle.hearing.specs.declared.Unfinished.the-variants.{Pro3, Pro3With, Pro3Both}
-use Rattle.hearing.specs.Hearing.{codesOf}
-use Rattle.sending.specs.declared.Bytes.{Bytes}
-use Rattle.sending.specs.declared.Sent.{Sent}
+use Rattle.links_wiring.specs.declared.Module.{Module}
+use Rattle.links_wiring.specs.declared.Module.the-variants.{Screen, Keyboard, Modem, Socket}
+use Rattle.links_wiring.specs.Reading.{allReached}
+use Rattle.links_hearing.specs.declared.Unfinished.the-variants.{Free, Escape, Pro1, Pro2, Pro2With}
+use Rattle.links_hearing.specs.declared.Unfinished.the-variants.{Pro3, Pro3With, Pro3Both}
+use Rattle.links_hearing.specs.Hearing.{codesOf}
+use Rattle.links_sending.specs.declared.Bytes.{Bytes}
+use Rattle.links_sending.specs.declared.Sent.{Sent}
 use Rattle.links.specs.declared.Links.{Links}
 use Rattle.links.specs.declared.Outcome.{Outcome}
 use Rattle.links.specs.States.{localLinks, connectedLinks}

@@ -6,19 +6,19 @@ use Prim.Native.Nat.{ℕ}
 use lib.Dec.{ltb}
 use Rattle.numbers.specs.Numbers.{Told, toldOf}
 use Rattle.values.specs.Large.{Values}
-use Rattle.wiring.specs.declared.Module.{Module}
-use Rattle.wiring.specs.Modules.{same}
-use Rattle.wiring.specs.Tables.{reaches, NoneItself}
-use Rattle.replies.specs.Replies.{replyOf}
-use Rattle.hearing.specs.declared.Unfinished.the-variants.{Free}
-use Rattle.hearing.specs.Hearing.{codesOf}
-use Rattle.sending.specs.Sending.{gets}
+use Rattle.links_wiring.specs.declared.Module.{Module}
+use Rattle.links_wiring.specs.Modules.{same}
+use Rattle.links_wiring.specs.Tables.{reaches, NoneItself}
+use Rattle.links_replies.specs.Replies.{replyOf}
+use Rattle.links_hearing.specs.declared.Unfinished.the-variants.{Free}
+use Rattle.links_hearing.specs.Hearing.{codesOf}
+use Rattle.links_sending.specs.Sending.{gets}
 use Rattle.links.specs.declared.Links.{Links}
-use Rattle.ears.specs.declared.Ear.{Ear}
-use Rattle.ears.specs.declared.Ear.the-variants.{Modem as modem, Socket as socket}
+use Rattle.links_ears.specs.declared.Ear.{Ear}
+use Rattle.links_ears.specs.declared.Ear.the-variants.{Modem as modem, Socket as socket}
 use Rattle.links.specs.declared.Answer.the-variants.{Taken}
 use Rattle.links.specs.declared.Outcome.{Outcome}
-use Rattle.ears.specs.Ears.{nameOf}
+use Rattle.links_ears.specs.Ears.{nameOf}
 use Rattle.links.specs.States.{unfinished, left, inRange}
 use Rattle.links.specs.Calls.{withLocal, withConnected, fromKeyboard, fromEar}
 

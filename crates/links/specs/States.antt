@@ -1,14 +1,14 @@
 -- The state of the links (01, "Links and commands"). Assumes nothing.
 use mathlib.Core.Bool.{Bool, _&&_, not}
-use Rattle.wiring.specs.declared.Table.{Table}
-use Rattle.wiring.specs.Tables.{selfLinked, localTable, connectedTable}
-use Rattle.hearing.specs.declared.Unfinished.{Unfinished}
-use Rattle.hearing.specs.declared.Unfinished.the-variants.{Free}
-use Rattle.hearing.specs.Hearing.{inRange as sequenceInRange}
+use Rattle.links_wiring.specs.declared.Table.{Table}
+use Rattle.links_wiring.specs.Tables.{selfLinked, localTable, connectedTable}
+use Rattle.links_hearing.specs.declared.Unfinished.{Unfinished}
+use Rattle.links_hearing.specs.declared.Unfinished.the-variants.{Free}
+use Rattle.links_hearing.specs.Hearing.{inRange as sequenceInRange}
 use Rattle.links.specs.declared.Links.{Links}
-use Rattle.ears.specs.declared.Ear.{Ear}
-use Rattle.ears.specs.declared.Ear.the-variants.{Modem as modem, Socket as socket}
-use Rattle.ears.specs.Ears.{ownOf}
+use Rattle.links_ears.specs.declared.Ear.{Ear}
+use Rattle.links_ears.specs.declared.Ear.the-variants.{Modem as modem, Socket as socket}
+use Rattle.links_ears.specs.Ears.{ownOf}
 
 -- a table, and nothing unfinished
 abbrev pub starting : Table → Links

@@ -2,21 +2,21 @@
 //
 // Keyboard, modem and socket hand in one value at a time, and the host chooses a table; every call takes any state and
 // any value, and hands back the next state, the answer, and what each of the four receivers gets. A broken state, or a
-// value above 127, is refused and changes nothing. `wiring` has the table, `ears` the two modules that are heard for
-// commands, `hearing` what a value from one of them means, `sending` what that does. specs/States says what a state is,
-// specs/Calls what each call does, specs/Runs what a whole run is; proofs/ holds their laws.
+// value above 127, is refused and changes nothing. `links_wiring` has the table, `links_ears` the two modules that are
+// heard for commands, `links_hearing` what a value from one of them means, `links_sending` what that does. specs/States
+// says what a state is, specs/Calls what each call does, specs/Runs what a whole run is; proofs/ holds their laws.
 ghost use mathlib.Core.Path.{_≡_};
-ghost use Rattle.sending.specs.Sending.{silence};
+ghost use Rattle.links_sending.specs.Sending.{silence};
 ghost use Rattle.links.specs.States.{localLinks, connectedLinks, left, inRange};
 ghost use Rattle.links.specs.Calls.{giving, unlessRefused, choosing, withLocal, withConnected};
 ghost use Rattle.links.specs.Calls.{taking, fromEar, fromKeyboard, fromModem, fromSocket};
-use commands::Order;
-pub use ears::Ear;
-use hearing::Heard;
-use hearing::Unfinished;
-use sending::Sent;
-use wiring::Module;
-use wiring::Table;
+use links_commands::Order;
+pub use links_ears::Ear;
+use links_hearing::Heard;
+use links_hearing::Unfinished;
+use links_sending::Sent;
+use links_wiring::Module;
+use links_wiring::Table;
 
 pub struct Links {
     pub table: Table,
@@ -45,7 +45,7 @@ fn silent(next: Links, answer: Answer) -> Outcome
     Outcome {
         next,
         answer,
-        sent: sending::silence(),
+        sent: links_sending::silence(),
     }
 }
 
@@ -55,7 +55,7 @@ impl Links {
         ensures { λ r. ⌜ r ≡ localLinks ⌝ }
     {
         Links {
-            table: wiring::local_table(),
+            table: links_wiring::local_table(),
             modem: Unfinished::Free,
             socket: Unfinished::Free,
         }
@@ -66,7 +66,7 @@ impl Links {
         ensures { λ r. ⌜ r ≡ connectedLinks ⌝ }
     {
         Links {
-            table: wiring::connected_table(),
+            table: links_wiring::connected_table(),
             modem: Unfinished::Free,
             socket: Unfinished::Free,
         }
@@ -81,8 +81,8 @@ impl Links {
         }
         let modem = self.modem;
         let socket = self.socket;
-        if hearing::in_range(modem) {
-            return hearing::in_range(socket);
+        if links_hearing::in_range(modem) {
+            return links_hearing::in_range(socket);
         }
         false
     }
@@ -108,14 +108,14 @@ impl Links {
     pub fn with_local(self) -> Outcome
         ensures { λ r. ⌜ r ≡ withLocal self ⌝ }
     {
-        self.choose(wiring::local_table())
+        self.choose(links_wiring::local_table())
     }
 
     // The host chooses the connected table.
     pub fn with_connected(self) -> Outcome
         ensures { λ r. ⌜ r ≡ withConnected self ⌝ }
     {
-        self.choose(wiring::connected_table())
+        self.choose(links_wiring::connected_table())
     }
 
     // Refused where the state is broken or the value above 127; else what comes of it.
@@ -135,7 +135,7 @@ impl Links {
     pub fn from_keyboard(self, value: u8) -> Outcome
         ensures { λ r. ⌜ r ≡ fromKeyboard self value ⌝ }
     {
-        let done = sending::obey(self.table, Module::Keyboard, Order::Pass(value));
+        let done = links_sending::obey(self.table, Module::Keyboard, Order::Pass(value));
         let sent = done.sent;
         let outcome = Outcome {
             next: self,
@@ -171,7 +171,7 @@ impl Links {
     {
         let order = heard.order;
         let unfinished = heard.unfinished;
-        let done = sending::obey(self.table, ear.name(), order);
+        let done = links_sending::obey(self.table, ear.name(), order);
         let sent = done.sent;
         Outcome {
             next: self.left(ear, done.table, unfinished),
@@ -186,7 +186,7 @@ impl Links {
     {
         let modem = self.modem;
         let socket = self.socket;
-        let outcome = self.take(ear, hearing::hear(ear.own(modem, socket), value));
+        let outcome = self.take(ear, links_hearing::hear(ear.own(modem, socket), value));
         self.unless_refused(value, outcome)
     }
 

@@ -1,13 +1,13 @@
 -- What setting or clearing a link does to each pair. Assumes nothing.
 use mathlib.Core.Path.{_≡_, refl}
 use mathlib.Core.Bool.{Bool, true, false, cond, _&&_, not}
-use Rattle.wiring.specs.declared.Module.{Module}
-use Rattle.wiring.specs.declared.Module.the-variants.{Screen, Keyboard, Modem, Socket}
-use Rattle.wiring.specs.declared.Row.{Row}
-use Rattle.wiring.specs.declared.Table.{Table}
-use Rattle.wiring.specs.Modules.{same}
-use Rattle.wiring.specs.Tables.{marked, reaches}
-use Rattle.linking.specs.Linking.{marking, relinked, linked}
+use Rattle.links_wiring.specs.declared.Module.{Module}
+use Rattle.links_wiring.specs.declared.Module.the-variants.{Screen, Keyboard, Modem, Socket}
+use Rattle.links_wiring.specs.declared.Row.{Row}
+use Rattle.links_wiring.specs.declared.Table.{Table}
+use Rattle.links_wiring.specs.Modules.{same}
+use Rattle.links_wiring.specs.Tables.{marked, reaches}
+use Rattle.links_changes.specs.Linking.{marking, relinked, linked}
 
 row-pairs : (w : Row) (r b : Module) (on : Bool) → marked (marking w r on) b ≡ cond (same b r) on (marked w b)
 row-pairs w Screen Screen on = refl

@@ -3,15 +3,15 @@ use mathlib.Core.Path.{_≡_, refl, ap, _∙_}
 use mathlib.Core.Bool.{Bool, true, false, cond, _&&_, not}
 use lib.Dec.{T}
 use Rattle.laws.proofs.Computed.{and-left, and-right}
-use Rattle.wiring.specs.declared.Module.{Module}
-use Rattle.wiring.specs.declared.Module.the-variants.{Screen, Keyboard, Modem, Socket}
-use Rattle.wiring.specs.declared.Table.{Table}
-use Rattle.wiring.specs.Modules.{same}
-use Rattle.wiring.specs.Tables.{reaches, NoneItself}
-use Rattle.commands.specs.declared.Order.{Order}
-use Rattle.commands.specs.declared.Order.the-variants.{Nothing, Pass, Pair, Link, Ask}
-use Rattle.linking.specs.Linking.{linked, tableAfter}
-use Rattle.linking.proofs.Pairs.{linked-pairs}
+use Rattle.links_wiring.specs.declared.Module.{Module}
+use Rattle.links_wiring.specs.declared.Module.the-variants.{Screen, Keyboard, Modem, Socket}
+use Rattle.links_wiring.specs.declared.Table.{Table}
+use Rattle.links_wiring.specs.Modules.{same}
+use Rattle.links_wiring.specs.Tables.{reaches, NoneItself}
+use Rattle.links_commands.specs.declared.Order.{Order}
+use Rattle.links_commands.specs.declared.Order.the-variants.{Nothing, Pass, Pair, Link, Ask}
+use Rattle.links_changes.specs.Linking.{linked, tableAfter}
+use Rattle.links_changes.proofs.Pairs.{linked-pairs}
 
 -- ---- a test computed at every module
 

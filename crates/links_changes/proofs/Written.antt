@@ -2,11 +2,11 @@
 use mathlib.Core.Path.{_≡_, refl}
 use mathlib.Core.Bool.{true, false}
 use mathlib.Core.List.{[], _∷_}
-use Rattle.wiring.specs.declared.Module.the-variants.{Screen, Keyboard, Modem, Socket}
-use Rattle.wiring.specs.Tables.{localTable, connectedTable}
-use Rattle.wiring.specs.Reading.{allReached}
-use Rattle.commands.specs.declared.Order.the-variants.{Link}
-use Rattle.linking.specs.Linking.{linked, tableAfter}
+use Rattle.links_wiring.specs.declared.Module.the-variants.{Screen, Keyboard, Modem, Socket}
+use Rattle.links_wiring.specs.Tables.{localTable, connectedTable}
+use Rattle.links_wiring.specs.Reading.{allReached}
+use Rattle.links_commands.specs.declared.Order.the-variants.{Link}
+use Rattle.links_changes.specs.Linking.{linked, tableAfter}
 
 -- keyboard to screen is set
 pub set-written :

@@ -1,13 +1,13 @@
 -- What an order does to the table (01, "Links and commands"). Assumes nothing.
 use mathlib.Core.Bool.{Bool, cond}
-use Rattle.wiring.specs.declared.Module.{Module}
-use Rattle.wiring.specs.declared.Module.the-variants.{Screen, Keyboard, Modem, Socket}
-use Rattle.wiring.specs.declared.Row.{Row}
-use Rattle.wiring.specs.declared.Table.{Table}
-use Rattle.wiring.specs.Modules.{same}
-use Rattle.wiring.specs.Tables.{row, rowOf}
-use Rattle.commands.specs.declared.Order.{Order}
-use Rattle.commands.specs.declared.Order.the-variants.{Nothing, Pass, Pair, Link, Ask}
+use Rattle.links_wiring.specs.declared.Module.{Module}
+use Rattle.links_wiring.specs.declared.Module.the-variants.{Screen, Keyboard, Modem, Socket}
+use Rattle.links_wiring.specs.declared.Row.{Row}
+use Rattle.links_wiring.specs.declared.Table.{Table}
+use Rattle.links_wiring.specs.Modules.{same}
+use Rattle.links_wiring.specs.Tables.{row, rowOf}
+use Rattle.links_commands.specs.declared.Order.{Order}
+use Rattle.links_commands.specs.declared.Order.the-variants.{Nothing, Pass, Pair, Link, Ask}
 
 -- the row with one receiver set or cleared
 abbrev pub marking : Row → Module → Bool → Row

@@ -3,12 +3,12 @@
 //
 // specs/Linking says so; proofs/ shows what it does to each pair, and that no module is ever linked to itself.
 ghost use mathlib.Core.Path.{_≡_};
-ghost use Rattle.wiring.specs.Modules.{placeOf, same as sameAs};
-ghost use Rattle.linking.specs.Linking.{marking, withRow, linked, tableAfter};
-use commands::Order;
-use wiring::Module;
-use wiring::Row;
-use wiring::Table;
+ghost use Rattle.links_wiring.specs.Modules.{placeOf, same as sameAs};
+ghost use Rattle.links_changes.specs.Linking.{marking, withRow, linked, tableAfter};
+use links_commands::Order;
+use links_wiring::Module;
+use links_wiring::Row;
+use links_wiring::Table;
 
 // Its place in the page's order.
 fn place(m: Module) -> u8

@@ -6,16 +6,16 @@ use Prim.Native.Nat.{ℕ}
 use lib.Dec.{eqb}
 use borrow.Author.Tests.{eqb-true}
 use Rattle.laws.proofs.Computed.{chosen}
-use Rattle.wiring.specs.declared.Module.{Module}
-use Rattle.wiring.specs.declared.Module.the-variants.{Screen, Keyboard, Modem, Socket}
-use Rattle.wiring.specs.Modules.{receiverCode, senderCode}
-use Rattle.commands.specs.declared.Named.{Named}
-use Rattle.commands.specs.declared.Named.the-variants.{Is, Nobody}
-use Rattle.commands.specs.declared.Order.{Order}
-use Rattle.commands.specs.declared.Order.the-variants.{Nothing, Pass, Pair, Link, Ask}
-use Rattle.commands.specs.Commands.{Command, pro1, pro2, pro3, spelled, beginning, lastOf}
-use Rattle.commands.specs.Commands.{askCode, linkCode, named, asking, linking, ordered}
-use Rattle.commands.specs.Commands.{linkCommand, askCommand, SpelledFor, SmallOrder}
+use Rattle.links_wiring.specs.declared.Module.{Module}
+use Rattle.links_wiring.specs.declared.Module.the-variants.{Screen, Keyboard, Modem, Socket}
+use Rattle.links_wiring.specs.Modules.{receiverCode, senderCode}
+use Rattle.links_commands.specs.declared.Named.{Named}
+use Rattle.links_commands.specs.declared.Named.the-variants.{Is, Nobody}
+use Rattle.links_commands.specs.declared.Order.{Order}
+use Rattle.links_commands.specs.declared.Order.the-variants.{Nothing, Pass, Pair, Link, Ask}
+use Rattle.links_commands.specs.Commands.{Command, pro1, pro2, pro3, spelled, beginning, lastOf}
+use Rattle.links_commands.specs.Commands.{askCode, linkCode, named, asking, linking, ordered}
+use Rattle.links_commands.specs.Commands.{linkCommand, askCommand, SpelledFor, SmallOrder}
 
 -- a command in two: all its values but the last, and the last
 pub in-two : (c : Command) → spelled c ≡ beginning c ++ (lastOf c ∷ [])

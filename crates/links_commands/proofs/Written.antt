@@ -2,9 +2,9 @@
 use mathlib.Core.Path.{_≡_, refl}
 use mathlib.Core.Bool.{true, false}
 use mathlib.Core.List.{List, [], _∷_, map}
-use Rattle.wiring.specs.declared.Module.the-variants.{Screen, Keyboard, Modem, Socket}
-use Rattle.commands.specs.declared.Order.the-variants.{Nothing, Link, Ask}
-use Rattle.commands.specs.Commands.{Command, pro1, pro2, pro3, spelled, ordered, linkCommand, askCommand}
+use Rattle.links_wiring.specs.declared.Module.the-variants.{Screen, Keyboard, Modem, Socket}
+use Rattle.links_commands.specs.declared.Order.the-variants.{Nothing, Link, Ask}
+use Rattle.links_commands.specs.Commands.{Command, pro1, pro2, pro3, spelled, ordered, linkCommand, askCommand}
 
 -- "1/B then 3/9, 3/A, 3/B and one, two, three codes"
 pub spelled-written :

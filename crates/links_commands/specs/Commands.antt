@@ -5,13 +5,13 @@ use mathlib.Core.Bool.{Bool, true, false, cond}
 use mathlib.Core.List.{List, [], _∷_}
 use Prim.Native.Nat.{ℕ, _<_}
 use lib.Dec.{eqb}
-use Rattle.wiring.specs.declared.Module.{Module}
-use Rattle.wiring.specs.declared.Module.the-variants.{Screen, Keyboard, Modem, Socket}
-use Rattle.wiring.specs.Modules.{receiverCode, senderCode}
-use Rattle.commands.specs.declared.Named.{Named}
-use Rattle.commands.specs.declared.Named.the-variants.{Is, Nobody}
-use Rattle.commands.specs.declared.Order.{Order}
-use Rattle.commands.specs.declared.Order.the-variants.{Nothing, Pass, Pair, Link, Ask}
+use Rattle.links_wiring.specs.declared.Module.{Module}
+use Rattle.links_wiring.specs.declared.Module.the-variants.{Screen, Keyboard, Modem, Socket}
+use Rattle.links_wiring.specs.Modules.{receiverCode, senderCode}
+use Rattle.links_commands.specs.declared.Named.{Named}
+use Rattle.links_commands.specs.declared.Named.the-variants.{Is, Nobody}
+use Rattle.links_commands.specs.declared.Order.{Order}
+use Rattle.links_commands.specs.declared.Order.the-variants.{Nothing, Pass, Pair, Link, Ask}
 
 -- PRO1, PRO2 and PRO3 with the codes that they take
 pub data Command : Type 0 where

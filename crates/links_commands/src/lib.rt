@@ -4,9 +4,9 @@
 // specs/Commands says how each command is spelled and what it orders; proofs/ shows that a link or ask command orders
 // just that, and no other command anything.
 ghost use mathlib.Core.Path.{_≡_};
-ghost use Rattle.wiring.specs.Modules.{receiverCode, senderCode};
-ghost use Rattle.commands.specs.Commands.{named, asking, linking, orderedByTwo, orderedByThree};
-use wiring::Module;
+ghost use Rattle.links_wiring.specs.Modules.{receiverCode, senderCode};
+ghost use Rattle.links_commands.specs.Commands.{named, asking, linking, orderedByTwo, orderedByThree};
+use links_wiring::Module;
 
 // What is to be done.
 pub enum Order {

@@ -1,9 +1,9 @@
 // The two modules that are heard for commands, each with its own unfinished sequence (01, "Links and commands").
 // specs/Ears says which each is; proofs/Apart that they are told apart.
 ghost use mathlib.Core.Path.{_≡_};
-ghost use Rattle.ears.specs.Ears.{nameOf, ownOf};
-use hearing::Unfinished;
-use wiring::Module;
+ghost use Rattle.links_ears.specs.Ears.{nameOf, ownOf};
+use links_hearing::Unfinished;
+use links_wiring::Module;
 
 pub enum Ear {
     Modem,

@@ -1,10 +1,10 @@
 -- The codes of each unfinished sequence, and what the next value makes of it, written out. Assumes nothing.
 use mathlib.Core.Path.{_≡_, refl}
 use mathlib.Core.List.{List, [], _∷_, map}
-use Rattle.hearing.specs.declared.Unfinished.{Unfinished}
-use Rattle.hearing.specs.declared.Unfinished.the-variants.{Free, Escape, Pro1, Pro2, Pro2With}
-use Rattle.hearing.specs.declared.Unfinished.the-variants.{Pro3, Pro3With, Pro3Both}
-use Rattle.hearing.specs.Hearing.{codesOf, heard}
+use Rattle.links_hearing.specs.declared.Unfinished.{Unfinished}
+use Rattle.links_hearing.specs.declared.Unfinished.the-variants.{Free, Escape, Pro1, Pro2, Pro2With}
+use Rattle.links_hearing.specs.declared.Unfinished.the-variants.{Pro3, Pro3With, Pro3Both}
+use Rattle.links_hearing.specs.Hearing.{codesOf, heard}
 
 -- "nothing, ESC alone, or ESC, 3/9 to 3/B and fewer codes than it takes"
 abbrev pub each : List Unfinished

@@ -5,18 +5,18 @@ use mathlib.Core.List.{List, [], _∷_, _++_, append-assoc, append-nil}
 use Prim.Native.Nat.{ℕ}
 use lib.Dec.{eqb}
 use borrow.Author.Tests.{eqb-true, eqb-false}
-use Rattle.commands.specs.declared.Order.{Order}
-use Rattle.commands.specs.declared.Order.the-variants.{Nothing, Pass, Pair, Link, Ask}
-use Rattle.commands.specs.Commands.{Command, pro1, pro2, pro3, ordered, SpelledFor}
-use Rattle.commands.proofs.Known.{spelled-for}
-use Rattle.hearing.specs.declared.Unfinished.{Unfinished}
-use Rattle.hearing.specs.declared.Unfinished.the-variants.{Free, Escape, Pro1, Pro2, Pro2With}
-use Rattle.hearing.specs.declared.Unfinished.the-variants.{Pro3, Pro3With, Pro3Both}
-use Rattle.hearing.specs.declared.Heard.{Heard}
-use Rattle.hearing.specs.Hearing.{codesOf, heard, leftAfter}
-use Rattle.hearing.specs.Phrases.{Phrase, alone, escape, command, valuesOf, flowing, Proper}
-use Rattle.hearing.specs.Phrases.{AllProper, allValues, allFlowing, Phrased}
-use Rattle.hearing.proofs.Spelling.{plain, paired}
+use Rattle.links_commands.specs.declared.Order.{Order}
+use Rattle.links_commands.specs.declared.Order.the-variants.{Nothing, Pass, Pair, Link, Ask}
+use Rattle.links_commands.specs.Commands.{Command, pro1, pro2, pro3, ordered, SpelledFor}
+use Rattle.links_commands.proofs.Known.{spelled-for}
+use Rattle.links_hearing.specs.declared.Unfinished.{Unfinished}
+use Rattle.links_hearing.specs.declared.Unfinished.the-variants.{Free, Escape, Pro1, Pro2, Pro2With}
+use Rattle.links_hearing.specs.declared.Unfinished.the-variants.{Pro3, Pro3With, Pro3Both}
+use Rattle.links_hearing.specs.declared.Heard.{Heard}
+use Rattle.links_hearing.specs.Hearing.{codesOf, heard, leftAfter}
+use Rattle.links_hearing.specs.Phrases.{Phrase, alone, escape, command, valuesOf, flowing, Proper}
+use Rattle.links_hearing.specs.Phrases.{AllProper, allValues, allFlowing, Phrased}
+use Rattle.links_hearing.proofs.Spelling.{plain, paired}
 
 -- what an order passes on
 abbrev pub passed : Order → List ℕ

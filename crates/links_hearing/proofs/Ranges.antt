@@ -10,13 +10,13 @@ use borrow.Author.Tests.{leb-true, le-leb}
 use Rattle.laws.proofs.Computed.{chosen, and-left, and-right, holds, is-true, both}
 use Rattle.values.specs.Large.{Values}
 use Rattle.values.proofs.Found.{values-none, values-cons, values-head, values-tail}
-use Rattle.hearing.specs.declared.Unfinished.{Unfinished}
-use Rattle.hearing.specs.declared.Unfinished.the-variants.{Free, Escape, Pro1, Pro2, Pro2With}
-use Rattle.hearing.specs.declared.Unfinished.the-variants.{Pro3, Pro3With, Pro3Both}
-use Rattle.hearing.specs.declared.Heard.{Heard}
-use Rattle.commands.specs.Commands.{pro2, pro3, SmallOrder}
-use Rattle.commands.proofs.Known.{small-ordered}
-use Rattle.hearing.specs.Hearing.{codesOf, inRange, heard}
+use Rattle.links_hearing.specs.declared.Unfinished.{Unfinished}
+use Rattle.links_hearing.specs.declared.Unfinished.the-variants.{Free, Escape, Pro1, Pro2, Pro2With}
+use Rattle.links_hearing.specs.declared.Unfinished.the-variants.{Pro3, Pro3With, Pro3Both}
+use Rattle.links_hearing.specs.declared.Heard.{Heard}
+use Rattle.links_commands.specs.Commands.{pro2, pro3, SmallOrder}
+use Rattle.links_commands.proofs.Known.{small-ordered}
+use Rattle.links_hearing.specs.Hearing.{codesOf, inRange, heard}
 
 -- ESC and the codes behind it
 after-esc : (vs : List ℕ) → Values vs → Values (27 ∷ vs)

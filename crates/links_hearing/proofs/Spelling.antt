@@ -5,11 +5,11 @@ use Prim.Native.Nat.{ℕ, zero, suc, _+_, _<_}
 use native.Mathlib.Omega.{arith}
 use borrow.Author.Tests.{ne-eqb}
 use lib.ListN.{length, getD, take}
-use Rattle.hearing.specs.declared.Unfinished.{Unfinished}
-use Rattle.hearing.specs.declared.Unfinished.the-variants.{Free, Escape}
-use Rattle.commands.specs.declared.Order.the-variants.{Nothing, Pass, Pair}
-use Rattle.commands.specs.Commands.{Command, pro1, pro2, pro3, spelled, beginning, lastOf, ordered}
-use Rattle.hearing.specs.Hearing.{codesOf, does, heard, leftAfter}
+use Rattle.links_hearing.specs.declared.Unfinished.{Unfinished}
+use Rattle.links_hearing.specs.declared.Unfinished.the-variants.{Free, Escape}
+use Rattle.links_commands.specs.declared.Order.the-variants.{Nothing, Pass, Pair}
+use Rattle.links_commands.specs.Commands.{Command, pro1, pro2, pro3, spelled, beginning, lastOf, ordered}
+use Rattle.links_hearing.specs.Hearing.{codesOf, does, heard, leftAfter}
 
 -- some values, then others
 pub left-append : (u : Unfinished) (vs ws : List ℕ) → leftAfter u (vs ++ ws) ≡ leftAfter (leftAfter u vs) ws

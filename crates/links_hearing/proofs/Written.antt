@@ -3,11 +3,11 @@ use mathlib.Core.Path.{_≡_, refl}
 use mathlib.Core.Bool.{true, false}
 use mathlib.Core.List.{List, [], _∷_, map}
 use Prim.Native.Nat.{ℕ}
-use Rattle.wiring.specs.declared.Module.the-variants.{Screen, Keyboard, Modem, Socket}
-use Rattle.commands.specs.declared.Order.the-variants.{Nothing, Pass, Link, Ask}
-use Rattle.hearing.specs.declared.Unfinished.the-variants.{Free, Pro2With, Pro3With, Pro3Both}
-use Rattle.hearing.specs.Hearing.{codesOf, inRange, heard, leftAfter}
-use Rattle.hearing.proofs.Escapes.{ordersOf}
+use Rattle.links_wiring.specs.declared.Module.the-variants.{Screen, Keyboard, Modem, Socket}
+use Rattle.links_commands.specs.declared.Order.the-variants.{Nothing, Pass, Link, Ask}
+use Rattle.links_hearing.specs.declared.Unfinished.the-variants.{Free, Pro2With, Pro3With, Pro3Both}
+use Rattle.links_hearing.specs.Hearing.{codesOf, inRange, heard, leftAfter}
+use Rattle.links_hearing.proofs.Escapes.{ordersOf}
 
 -- ESC, 3/A, 6/2, 5/8; ESC, 3/B, 6/1, 5/8, 5/1; ESC, 3/B, 6/0, 5/A, 5/3
 pub commands-written :

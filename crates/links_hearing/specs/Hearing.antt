@@ -3,13 +3,13 @@ use mathlib.Core.Bool.{Bool, true, cond, _&&_}
 use mathlib.Core.List.{List, [], _∷_}
 use Prim.Native.Nat.{ℕ}
 use lib.Dec.{leb, eqb}
-use Rattle.hearing.specs.declared.Unfinished.{Unfinished}
-use Rattle.hearing.specs.declared.Unfinished.the-variants.{Free, Escape, Pro1, Pro2, Pro2With}
-use Rattle.hearing.specs.declared.Unfinished.the-variants.{Pro3, Pro3With, Pro3Both}
-use Rattle.commands.specs.declared.Order.{Order}
-use Rattle.commands.specs.declared.Order.the-variants.{Nothing, Pass, Pair}
-use Rattle.hearing.specs.declared.Heard.{Heard}
-use Rattle.commands.specs.Commands.{pro1, pro2, pro3, ordered}
+use Rattle.links_hearing.specs.declared.Unfinished.{Unfinished}
+use Rattle.links_hearing.specs.declared.Unfinished.the-variants.{Free, Escape, Pro1, Pro2, Pro2With}
+use Rattle.links_hearing.specs.declared.Unfinished.the-variants.{Pro3, Pro3With, Pro3Both}
+use Rattle.links_commands.specs.declared.Order.{Order}
+use Rattle.links_commands.specs.declared.Order.the-variants.{Nothing, Pass, Pair}
+use Rattle.links_hearing.specs.declared.Heard.{Heard}
+use Rattle.links_commands.specs.Commands.{pro1, pro2, pro3, ordered}
 
 -- "nothing, ESC alone, or ESC, 3/9 to 3/B and fewer codes than it takes": the codes so far
 abbrev pub codesOf : Unfinished → List ℕ

@@ -2,9 +2,9 @@
 use mathlib.Core.Path.{_≡_}
 use mathlib.Core.List.{List, [], _∷_, _++_}
 use Prim.Native.Nat.{ℕ}
-use Rattle.hearing.specs.declared.Unfinished.{Unfinished}
-use Rattle.commands.specs.Commands.{Command, spelled}
-use Rattle.hearing.specs.Hearing.{codesOf}
+use Rattle.links_hearing.specs.declared.Unfinished.{Unfinished}
+use Rattle.links_commands.specs.Commands.{Command, spelled}
+use Rattle.links_hearing.specs.Hearing.{codesOf}
 
 -- a value by itself; ESC and its next code; a command
 pub data Phrase : Type 0 where

@@ -2,10 +2,10 @@
 // command.
 //
 // `hear` takes an unfinished sequence and one value, and says what is unfinished then and what is ordered. It knows no
-// table. specs/Hearing says the same; proofs/ shows that it takes in just the commands of `commands`.
+// table. specs/Hearing says the same; proofs/ shows that it takes in just the commands of `links_commands`.
 ghost use mathlib.Core.Path.{_≡_};
-ghost use Rattle.hearing.specs.Hearing.{inRange, holds, does, begun, escaped, heard};
-use commands::Order;
+ghost use Rattle.links_hearing.specs.Hearing.{inRange, holds, does, begun, escaped, heard};
+use links_commands::Order;
 
 // An unfinished sequence.
 pub enum Unfinished {
@@ -93,9 +93,9 @@ pub fn hear(unfinished: Unfinished, value: u8) -> Heard
         Unfinished::Escape => escape(value),
         Unfinished::Pro1 => finish(Order::Nothing),
         Unfinished::Pro2 => hold(Unfinished::Pro2With(value)),
-        Unfinished::Pro2With(first) => finish(commands::pro2(first, value)),
+        Unfinished::Pro2With(first) => finish(links_commands::pro2(first, value)),
         Unfinished::Pro3 => hold(Unfinished::Pro3With(value)),
         Unfinished::Pro3With(first) => hold(Unfinished::Pro3Both(first, value)),
-        Unfinished::Pro3Both(first, second) => finish(commands::pro3(first, second, value)),
+        Unfinished::Pro3Both(first, second) => finish(links_commands::pro3(first, second, value)),
     }
 }

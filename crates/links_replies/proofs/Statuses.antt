@@ -7,12 +7,12 @@ use Prim.Native.Nat.{ℕ, zero, suc, _/_, _%_}
 use native.Mathlib.Omega.{arith}
 use lib.ListN.{length}
 use Rattle.values.specs.Large.{Values}
-use Rattle.wiring.specs.declared.Module.{Module}
-use Rattle.wiring.specs.declared.Module.the-variants.{Screen, Keyboard, Modem, Socket}
-use Rattle.wiring.specs.declared.Table.{Table}
-use Rattle.wiring.specs.Tables.{row, localTable, connectedTable}
-use Rattle.wiring.proofs.Small.{receiver-small}
-use Rattle.replies.specs.Replies.{shown, summed, statusOf, replyOf, statusesOf, weightOf}
+use Rattle.links_wiring.specs.declared.Module.{Module}
+use Rattle.links_wiring.specs.declared.Module.the-variants.{Screen, Keyboard, Modem, Socket}
+use Rattle.links_wiring.specs.declared.Table.{Table}
+use Rattle.links_wiring.specs.Tables.{row, localTable, connectedTable}
+use Rattle.links_wiring.proofs.Small.{receiver-small}
+use Rattle.links_replies.specs.Replies.{shown, summed, statusOf, replyOf, statusesOf, weightOf}
 
 -- ---- its bits
 

@@ -3,10 +3,10 @@
 use mathlib.Core.Path.{_≡_, refl}
 use mathlib.Core.List.{List, [], _∷_}
 use Prim.Native.Nat.{ℕ}
-use Rattle.wiring.specs.declared.Module.the-variants.{Screen, Keyboard, Modem, Socket}
-use Rattle.wiring.specs.declared.Table.{Table}
-use Rattle.wiring.specs.Tables.{localTable, connectedTable}
-use Rattle.replies.specs.Replies.{statusOf, replyOf}
+use Rattle.links_wiring.specs.declared.Module.the-variants.{Screen, Keyboard, Modem, Socket}
+use Rattle.links_wiring.specs.declared.Table.{Table}
+use Rattle.links_wiring.specs.Tables.{localTable, connectedTable}
+use Rattle.links_replies.specs.Replies.{statusOf, replyOf}
 
 -- about screen, keyboard, modem and socket
 abbrev pub repliesOf : Table → List (List ℕ)

@@ -3,12 +3,12 @@
 use mathlib.Core.Bool.{Bool, cond, _||_}
 use mathlib.Core.List.{List, [], _∷_}
 use Prim.Native.Nat.{ℕ, _+_}
-use Rattle.wiring.specs.declared.Module.{Module}
-use Rattle.wiring.specs.declared.Module.the-variants.{Screen, Keyboard, Modem, Socket}
-use Rattle.wiring.specs.declared.Row.{Row}
-use Rattle.wiring.specs.declared.Table.{Table}
-use Rattle.wiring.specs.Modules.{same, receiverCode}
-use Rattle.wiring.specs.Tables.{row, reaches}
+use Rattle.links_wiring.specs.declared.Module.{Module}
+use Rattle.links_wiring.specs.declared.Module.the-variants.{Screen, Keyboard, Modem, Socket}
+use Rattle.links_wiring.specs.declared.Row.{Row}
+use Rattle.links_wiring.specs.declared.Table.{Table}
+use Rattle.links_wiring.specs.Modules.{same, receiverCode}
+use Rattle.links_wiring.specs.Tables.{row, reaches}
 
 -- «1 : liaison établie»; and of the module itself, which nothing in the base blocks, «1 : module débloqué ou actif»
 abbrev pub shown : Table → Module → Module → Bool

@@ -3,11 +3,11 @@
 // specs/Replies says what a reply is; proofs/ shows that its status tells the table, bit by bit.
 ghost use mathlib.Core.Path.{_≡_};
 ghost use Prim.Native.Nat.{_≤_};
-ghost use Rattle.wiring.specs.Modules.{receiverCode};
-ghost use Rattle.replies.specs.Replies.{columnOf, weighed, summed, replyOf};
-use wiring::Module;
-use wiring::Row;
-use wiring::Table;
+ghost use Rattle.links_wiring.specs.Modules.{receiverCode};
+ghost use Rattle.links_replies.specs.Replies.{columnOf, weighed, summed, replyOf};
+use links_wiring::Module;
+use links_wiring::Row;
+use links_wiring::Table;
 
 // The senders that reach a receiver, and the receiver itself, which is active.
 fn column(table: Table, receiver: Module) -> Row

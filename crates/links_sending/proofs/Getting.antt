@@ -9,25 +9,25 @@ use lib.Seq.{take-append-seam}
 use Rattle.laws.proofs.Computed.{chosen}
 use Rattle.values.specs.Large.{Values}
 use Rattle.values.proofs.Found.{values-none, values-cons}
-use Rattle.wiring.specs.declared.Module.{Module}
-use Rattle.wiring.specs.declared.Module.the-variants.{Screen, Keyboard, Modem, Socket}
-use Rattle.wiring.specs.declared.Row.{Row}
-use Rattle.wiring.specs.declared.Table.{Table}
-use Rattle.wiring.specs.Modules.{same}
-use Rattle.wiring.specs.Tables.{marked, reaches, NoneItself}
-use Rattle.replies.specs.Replies.{replyOf}
-use Rattle.replies.proofs.Statuses.{reply-length, reply-small}
-use Rattle.commands.specs.declared.Order.{Order}
-use Rattle.commands.specs.declared.Order.the-variants.{Nothing, Pass, Pair, Link, Ask}
-use Rattle.commands.specs.Commands.{SmallOrder}
-use Rattle.linking.specs.Linking.{linked, tableAfter}
-use Rattle.linking.proofs.Pairs.{linked-pairs}
-use Rattle.linking.proofs.Selves.{none-itself-after}
-use Rattle.sending.specs.declared.Bytes.{Bytes}
-use Rattle.sending.specs.Sending.{packed, bytesOf, to, nowhere, silence, onlyTo, receiversFor, bytesFor, sentFor}
-use Rattle.sending.specs.Sending.{obeyed}
-use Rattle.sending.specs.Sending.{partOf, gets, FewIn}
-use Rattle.sending.proofs.Counts.{count-few}
+use Rattle.links_wiring.specs.declared.Module.{Module}
+use Rattle.links_wiring.specs.declared.Module.the-variants.{Screen, Keyboard, Modem, Socket}
+use Rattle.links_wiring.specs.declared.Row.{Row}
+use Rattle.links_wiring.specs.declared.Table.{Table}
+use Rattle.links_wiring.specs.Modules.{same}
+use Rattle.links_wiring.specs.Tables.{marked, reaches, NoneItself}
+use Rattle.links_replies.specs.Replies.{replyOf}
+use Rattle.links_replies.proofs.Statuses.{reply-length, reply-small}
+use Rattle.links_commands.specs.declared.Order.{Order}
+use Rattle.links_commands.specs.declared.Order.the-variants.{Nothing, Pass, Pair, Link, Ask}
+use Rattle.links_commands.specs.Commands.{SmallOrder}
+use Rattle.links_changes.specs.Linking.{linked, tableAfter}
+use Rattle.links_changes.proofs.Pairs.{linked-pairs}
+use Rattle.links_changes.proofs.Selves.{none-itself-after}
+use Rattle.links_sending.specs.declared.Bytes.{Bytes}
+use Rattle.links_sending.specs.Sending.{packed, bytesOf, to, nowhere, silence, onlyTo, receiversFor, bytesFor, sentFor}
+use Rattle.links_sending.specs.Sending.{obeyed}
+use Rattle.links_sending.specs.Sending.{partOf, gets, FewIn}
+use Rattle.links_sending.proofs.Counts.{count-few}
 
 -- ---- who gets it
 

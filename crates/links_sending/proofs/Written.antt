@@ -5,16 +5,16 @@ use mathlib.Core.Bool.{true, false}
 use mathlib.Core.List.{List, [], _∷_}
 use Prim.Native.Nat.{ℕ}
 use lib.ListN.{take}
-use Rattle.wiring.specs.declared.Module.{Module}
-use Rattle.wiring.specs.declared.Module.the-variants.{Screen, Keyboard, Modem, Socket}
-use Rattle.wiring.specs.Tables.{localTable, connectedTable}
-use Rattle.wiring.specs.Reading.{allReached}
-use Rattle.replies.specs.Replies.{statusOf, replyOf}
-use Rattle.commands.specs.declared.Order.the-variants.{Nothing, Pass, Pair, Link, Ask}
-use Rattle.linking.specs.Linking.{linked}
-use Rattle.sending.specs.declared.Bytes.{Bytes}
-use Rattle.sending.specs.declared.Sent.{Sent}
-use Rattle.sending.specs.Sending.{silence, obeyed}
+use Rattle.links_wiring.specs.declared.Module.{Module}
+use Rattle.links_wiring.specs.declared.Module.the-variants.{Screen, Keyboard, Modem, Socket}
+use Rattle.links_wiring.specs.Tables.{localTable, connectedTable}
+use Rattle.links_wiring.specs.Reading.{allReached}
+use Rattle.links_replies.specs.Replies.{statusOf, replyOf}
+use Rattle.links_commands.specs.declared.Order.the-variants.{Nothing, Pass, Pair, Link, Ask}
+use Rattle.links_changes.specs.Linking.{linked}
+use Rattle.links_sending.specs.declared.Bytes.{Bytes}
+use Rattle.links_sending.specs.declared.Sent.{Sent}
+use Rattle.links_sending.specs.Sending.{silence, obeyed}
 
 -- the five places and the count
 abbrev pub whole : Bytes → List ℕ

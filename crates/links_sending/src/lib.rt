@@ -5,13 +5,13 @@
 ghost use mathlib.Core.Path.{_≡_};
 ghost use mathlib.Core.Bool.{cond};
 ghost use mathlib.Core.List.{[]};
-ghost use Rattle.replies.specs.Replies.{replyOf};
-ghost use Rattle.sending.specs.Sending.{packed, to as toThose, nowhere as nowhereMarked, silence as silenceSent};
-ghost use Rattle.sending.specs.Sending.{onlyTo, receiversFor, bytesFor, obeyed};
-use commands::Order;
-use wiring::Module;
-use wiring::Row;
-use wiring::Table;
+ghost use Rattle.links_replies.specs.Replies.{replyOf};
+ghost use Rattle.links_sending.specs.Sending.{packed, to as toThose, nowhere as nowhereMarked, silence as silenceSent};
+ghost use Rattle.links_sending.specs.Sending.{onlyTo, receiversFor, bytesFor, obeyed};
+use links_commands::Order;
+use links_wiring::Module;
+use links_wiring::Row;
+use links_wiring::Table;
 
 // Up to five bytes: the first `count`. The places past them are 0.
 pub struct Bytes {
@@ -48,7 +48,7 @@ fn told(table: Table, receiver: Module) -> Bytes
     ensures { λ r. ⌜ r ≡ packed (replyOf table receiver) ⌝ }
 {
     Bytes {
-        codes: replies::reply(table, receiver),
+        codes: links_replies::reply(table, receiver),
         count: 5,
     }
 }
@@ -155,7 +155,7 @@ pub fn silence() -> Sent
 pub fn obey(table: Table, from: Module, order: Order) -> Obeyed
     ensures { λ r. ⌜ r ≡ obeyed table from order ⌝ }
 {
-    let after = linking::relink(table, order);
+    let after = links_changes::relink(table, order);
     let bytes = codes(after, order);
     let sent = to(receivers(after, from, order), bytes);
     Obeyed { table: after, sent }

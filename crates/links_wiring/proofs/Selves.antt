@@ -2,11 +2,11 @@
 use mathlib.Core.Path.{_≡_, refl}
 use mathlib.Core.Bool.{Bool, true, false, _||_}
 use Rattle.laws.proofs.Computed.{holds, fails}
-use Rattle.wiring.specs.declared.Module.{Module}
-use Rattle.wiring.specs.declared.Module.the-variants.{Screen, Keyboard, Modem, Socket}
-use Rattle.wiring.specs.declared.Table.{Table}
-use Rattle.wiring.specs.Modules.{same}
-use Rattle.wiring.specs.Tables.{reaches, selfLinked, NoneItself, localTable, connectedTable}
+use Rattle.links_wiring.specs.declared.Module.{Module}
+use Rattle.links_wiring.specs.declared.Module.the-variants.{Screen, Keyboard, Modem, Socket}
+use Rattle.links_wiring.specs.declared.Table.{Table}
+use Rattle.links_wiring.specs.Modules.{same}
+use Rattle.links_wiring.specs.Tables.{reaches, selfLinked, NoneItself, localTable, connectedTable}
 
 -- a module that is reached is another one
 pub reached-apart : (t : Table) (m r : Module) → reaches t m m ≡ false → reaches t m r ≡ true → same r m ≡ false

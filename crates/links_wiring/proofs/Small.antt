@@ -1,9 +1,9 @@
 -- The codes that name modules are values of 0 to 127. Assumes nothing.
 use Prim.Native.Nat.{_<_}
 use native.Mathlib.Omega.{arith}
-use Rattle.wiring.specs.declared.Module.{Module}
-use Rattle.wiring.specs.declared.Module.the-variants.{Screen, Keyboard, Modem, Socket}
-use Rattle.wiring.specs.Modules.{receiverCode, senderCode}
+use Rattle.links_wiring.specs.declared.Module.{Module}
+use Rattle.links_wiring.specs.declared.Module.the-variants.{Screen, Keyboard, Modem, Socket}
+use Rattle.links_wiring.specs.Modules.{receiverCode, senderCode}
 
 pub receiver-small : (m : Module) → receiverCode m < 128
 receiver-small Screen = omega arith

@@ -1,11 +1,11 @@
 -- The modules' codes and the standard tables, written out as 01 and 001 have them. Assumes nothing.
 use mathlib.Core.Path.{_≡_, refl}
 use mathlib.Core.List.{List, [], _∷_, map}
-use Rattle.wiring.specs.declared.Module.{Module}
-use Rattle.wiring.specs.declared.Module.the-variants.{Screen, Keyboard, Modem, Socket}
-use Rattle.wiring.specs.Modules.{receiverCode, senderCode}
-use Rattle.wiring.specs.Tables.{localTable, connectedTable}
-use Rattle.wiring.specs.Reading.{allReached}
+use Rattle.links_wiring.specs.declared.Module.{Module}
+use Rattle.links_wiring.specs.declared.Module.the-variants.{Screen, Keyboard, Modem, Socket}
+use Rattle.links_wiring.specs.Modules.{receiverCode, senderCode}
+use Rattle.links_wiring.specs.Tables.{localTable, connectedTable}
+use Rattle.links_wiring.specs.Reading.{allReached}
 
 -- "(screen, keyboard, modem, socket)"
 abbrev pub modules : List Module

@@ -4,7 +4,7 @@
 // specs/Modules and specs/Tables say what a table is and what the two standard tables link; proofs/ shows what the test
 // for a module linked to itself says.
 ghost use mathlib.Core.Path.{_≡_};
-ghost use Rattle.wiring.specs.Tables.{localTable, connectedTable, rowOf, selfLinked};
+ghost use Rattle.links_wiring.specs.Tables.{localTable, connectedTable, rowOf, selfLinked};
 
 pub enum Module {
     Screen,

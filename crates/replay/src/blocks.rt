@@ -12,7 +12,7 @@ use crate::files::unread;
 use crate::numbers::grown;
 use crate::texts::first;
 use crate::texts::put;
-use maker::Made;
+use block_maker::Made;
 
 // As many blocks as are written at once, their values and their bytes. A file of no more values has been read whole,
 // both times, before any of it is sent.
@@ -163,6 +163,6 @@ fn make_all(values: &[u8], out: &mut [u8]) -> usize {
 
 // Makes the block of the next values: whether it is made.
 fn make_next(rest: &[u8], out: &mut [u8]) -> bool {
-    let made = maker::make(first(rest, 15), out);
+    let made = block_maker::make(first(rest, 15), out);
     if let Made::Taken = made { true } else { false }
 }

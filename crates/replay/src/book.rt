@@ -11,11 +11,11 @@ use crate::texts::byte_at;
 use crate::texts::flush;
 use crate::texts::gather;
 use crate::texts::tell;
-use receiver::Phase;
-use receiver::Receiver;
+use line_receiver::Phase;
+use line_receiver::Receiver;
 
-// The notes that `pieces::lines_noted` gives: of a byte that is only held; of the last byte of a block, by its verdict;
-// of a byte dropped while waiting; and of the last code of a resumption.
+// The notes that `board_pieces::lines_noted` gives: of a byte that is only held; of the last byte of a block, by its
+// verdict; of a byte dropped while waiting; and of the last code of a resumption.
 const HELD: u8 = 0;
 
 const CLEAN: u8 = 1;
@@ -154,7 +154,7 @@ fn enter_clean(mut book: Book, last: u64, text: &mut [u8]) -> Book {
         book.told,
     );
     book.told = told;
-    book.number = codes::next_number(book.number);
+    book.number = line_codes::next_number(book.number);
     book
 }
 
@@ -225,7 +225,7 @@ fn enter_mended(mut book: Book, last: u64, bit: u8, byte: u8, text: &mut [u8]) -
         book.told,
     );
     book.told = told;
-    book.number = codes::next_number(book.number);
+    book.number = line_codes::next_number(book.number);
     book
 }
 

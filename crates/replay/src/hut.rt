@@ -3,9 +3,9 @@
 use crate::files::complain;
 use crate::numbers::grown;
 use board::Board;
-use pieces::Answer;
-use pieces::Passage;
-use receiver::Receiver;
+use board_pieces::Answer;
+use board_pieces::Passage;
+use line_receiver::Receiver;
 
 // As many bytes as surely suffice for a piece, so that it is not heard for room first: with at most sixteen bytes held
 // before it, it brings at most sixteen values more than it has bytes, and no value sends more than five.
@@ -56,7 +56,7 @@ pub(crate) fn hear(
     let mut keyboard = [0u8; ROOM];
     let mut modem = [0u8; ROOM];
     let mut socket = [0u8; ROOM];
-    let heard = pieces::lines_noted(
+    let heard = board_pieces::lines_noted(
         play.board,
         piece,
         &mut keyboard,

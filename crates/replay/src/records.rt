@@ -14,7 +14,7 @@ use crate::numbers::difference;
 use crate::rows::write_cursor;
 use crate::rows::write_rows;
 use crate::texts::first;
-use page::Screen;
+use screen_page::Screen;
 
 // A record that is being played: its board, and its book.
 struct Playing {

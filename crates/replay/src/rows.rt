@@ -4,10 +4,10 @@ use crate::texts::add;
 use crate::texts::first;
 use crate::texts::put;
 use crate::texts::tell;
-use cells::Cell;
-use page::Cursor;
-use page::Read;
-use page::Screen;
+use screen_cells::Cell;
+use screen_page::Cursor;
+use screen_page::Read;
+use screen_page::Screen;
 
 // Whether two cells look the same but for their characters.
 fn are_alike(a: Cell, b: Cell) -> bool {
@@ -48,7 +48,7 @@ fn found(read: Read) -> Cell {
     match read {
         Read::There(cell) => cell,
         Read::Off | Read::Broken => {
-            let mut cell = cells::blank();
+            let mut cell = screen_cells::blank();
             cell.code = b'?';
             cell
         }
@@ -58,7 +58,7 @@ fn found(read: Read) -> Cell {
 // Adds the forty characters of a row; in colours, what sets them stands wherever they change.
 fn add_row(screen: Screen, row: u8, coloured: bool, text: &mut [u8], used: usize) -> usize {
     let mut at = used;
-    let mut before = cells::blank();
+    let mut before = screen_cells::blank();
     let mut column = 0;
     while column < 40 {
         let cell = found(screen.cell(row, column + 1));

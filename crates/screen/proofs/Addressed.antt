@@ -7,20 +7,20 @@ use native.Mathlib.Omega.{arith}
 use lib.Dec.{eqb, lit≤}
 use lib.ListN.{replicate}
 use borrow.Author.Tests.{eq-eqb, ne-eqb}
-use Rattle.cursor.specs.declared.Place.{Place}
-use Rattle.cursor.specs.Places.{at}
-use Rattle.sequences.specs.declared.Sequence.{Sequence}
-use Rattle.sequences.specs.declared.Sequence.the-variants.{Free, Separator, Address, Row}
-use Rattle.sequences.specs.Hearing.{control, opens}
-use Rattle.sequences.proofs.Codes.{heard-code, heard-control}
-use Rattle.pen.specs.declared.Pen.{Pen}
-use Rattle.planning.specs.Naming.{Names}
-use Rattle.planning.specs.Changing.{withSequence}
-use Rattle.planning.specs.Obeying.{startAt, keeping, entering, obeyed}
-use Rattle.planning.proofs.Plans.{plan-heard}
-use Rattle.planning.proofs.Addressed.{us-there, us-nowhere}
-use Rattle.page.specs.declared.Screen.{Screen}
-use Rattle.page.specs.Pages.{withPen}
+use Rattle.screen_cursor.specs.declared.Place.{Place}
+use Rattle.screen_cursor.specs.Places.{at}
+use Rattle.screen_sequences.specs.declared.Sequence.{Sequence}
+use Rattle.screen_sequences.specs.declared.Sequence.the-variants.{Free, Separator, Address, Row}
+use Rattle.screen_sequences.specs.Hearing.{control, opens}
+use Rattle.screen_sequences.proofs.Codes.{heard-code, heard-control}
+use Rattle.screen_pen.specs.declared.Pen.{Pen}
+use Rattle.screen_planning.specs.Naming.{Names}
+use Rattle.screen_planning.specs.Changing.{withSequence}
+use Rattle.screen_planning.specs.Obeying.{startAt, keeping, entering, obeyed}
+use Rattle.screen_planning.proofs.Plans.{plan-heard}
+use Rattle.screen_planning.proofs.Addressed.{us-there, us-nowhere}
+use Rattle.screen_page.specs.declared.Screen.{Screen}
+use Rattle.screen_page.specs.Pages.{withPen}
 use Rattle.screen.specs.Screens.{applied, advanced, advancedBy}
 use Rattle.screen.specs.Claims.{ended, addressing, Starts}
 use Rattle.screen.proofs.Repeated.{step-plan, nul-step}

@@ -7,12 +7,12 @@ use types.Run.{OneOf, miss}
 use denote.Enum.Declared.{tagOf}
 use lib.ListN.{length}
 use borrow.Author.Tests.{lt-ltb, le-ltb}
-use Rattle.answers.specs.declared.Answer.{Answer}
-use Rattle.answers.specs.declared.Answer.the-variants.{Taken, TooLarge, Broken}
-use Rattle.answers.proofs.Answer.{the-type}
+use Rattle.screen_answers.specs.declared.Answer.{Answer}
+use Rattle.screen_answers.specs.declared.Answer.the-variants.{Taken, TooLarge, Broken}
+use Rattle.screen_answers.proofs.Answer.{the-type}
 use Rattle.values.specs.Large.{firstLarge}
-use Rattle.page.specs.declared.Screen.{Screen}
-use Rattle.page.specs.Ranges.{broken}
+use Rattle.screen_page.specs.declared.Screen.{Screen}
+use Rattle.screen_page.specs.Ranges.{broken}
 use Rattle.screen.specs.Screens.{advanced, advancedBy}
 use Rattle.screen.specs.Calls.{leftBy, answered, stepsTo, stepped, runsTo, ran}
 

@@ -5,20 +5,20 @@ use Prim.Native.Nat.{ℕ, _≤_, _<_}
 use lib.Dec.{eqb, eqb→eq}
 use lib.ListN.{set}
 use Rattle.laws.proofs.Computed.{holds}
-use Rattle.cursor.specs.Places.{On}
-use Rattle.cursor.specs.Places.{indexOf}
-use Rattle.cursor.proofs.Tested.{index-low}
-use Rattle.pen.specs.declared.Pen.{Pen}
-use Rattle.pen.specs.declared.Stroke.{Stroke}
-use Rattle.pen.specs.Pens.{InPen}
-use Rattle.pen.specs.Strokes.{stroke}
-use Rattle.planning.specs.declared.Asked.{Asked}
-use Rattle.planning.specs.declared.Asked.the-variants.{Nothing, Blank, Put}
-use Rattle.planning.specs.declared.Planned.{Planned}
-use Rattle.planning.specs.Planning.{planned}
-use Rattle.planning.proofs.Stays.{planned-in}
-use Rattle.page.specs.declared.Screen.{Screen}
-use Rattle.page.specs.Pages.{withPen}
+use Rattle.screen_cursor.specs.Places.{On}
+use Rattle.screen_cursor.specs.Places.{indexOf}
+use Rattle.screen_cursor.proofs.Tested.{index-low}
+use Rattle.screen_pen.specs.declared.Pen.{Pen}
+use Rattle.screen_pen.specs.declared.Stroke.{Stroke}
+use Rattle.screen_pen.specs.Pens.{InPen}
+use Rattle.screen_pen.specs.Strokes.{stroke}
+use Rattle.screen_planning.specs.declared.Asked.{Asked}
+use Rattle.screen_planning.specs.declared.Asked.the-variants.{Nothing, Blank, Put}
+use Rattle.screen_planning.specs.declared.Planned.{Planned}
+use Rattle.screen_planning.specs.Planning.{planned}
+use Rattle.screen_planning.proofs.Stays.{planned-in}
+use Rattle.screen_page.specs.declared.Screen.{Screen}
+use Rattle.screen_page.specs.Pages.{withPen}
 use Rattle.screen.specs.Screens.{written, writtenTimes, applied, advanced}
 use Rattle.screen.specs.declared.turns.Turn.{Turn}
 use Rattle.screen.specs.declared.turns.Turn.the-variants.{Moved, Typed, More}

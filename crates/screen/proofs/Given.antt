@@ -7,15 +7,15 @@ use native.Mathlib.Omega.{arith}
 use native.Mathlib.Nat.{zero-lt-suc}
 use lib.ListN.{length}
 use borrow.Author.Tests.{lt-ltb, le-ltb}
-use Rattle.answers.specs.declared.Answer.{Answer}
-use Rattle.answers.specs.declared.Answer.the-variants.{Taken, TooLarge, Broken}
-use Rattle.answers.specs.Answers.{told}
-use Rattle.answers.proofs.Given.{answer-told}
+use Rattle.screen_answers.specs.declared.Answer.{Answer}
+use Rattle.screen_answers.specs.declared.Answer.the-variants.{Taken, TooLarge, Broken}
+use Rattle.screen_answers.specs.Answers.{told}
+use Rattle.screen_answers.proofs.Given.{answer-told}
 use Rattle.values.specs.Large.{Values, firstLarge}
 use Rattle.values.proofs.Found.{none-large, values-append}
-use Rattle.page.specs.declared.Screen.{Screen}
-use Rattle.page.specs.Ranges.{broken, InScreen}
-use Rattle.page.proofs.Stays.{unbroken}
+use Rattle.screen_page.specs.declared.Screen.{Screen}
+use Rattle.screen_page.specs.Ranges.{broken, InScreen}
+use Rattle.screen_page.proofs.Stays.{unbroken}
 use Rattle.screen.specs.declared.Stepped.{Stepped}
 use Rattle.screen.specs.declared.Ran.{Ran}
 use Rattle.screen.specs.Screens.{advanced, advancedBy}

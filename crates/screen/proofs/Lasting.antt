@@ -2,15 +2,15 @@
 use mathlib.Core.Path.{_≡_, refl, sym, ap, _∙_, subst⁻¹}
 use mathlib.Core.List.{List, [], _∷_}
 use Prim.Native.Nat.{ℕ}
-use Rattle.answers.specs.declared.Answer.{Answer}
-use Rattle.answers.specs.declared.Answer.the-variants.{Taken, TooLarge, Broken}
-use Rattle.pen.specs.declared.Last.the-variants.{Never}
-use Rattle.pen.specs.declared.Pen.{Pen}
-use Rattle.planning.specs.Planning.{ordered}
-use Rattle.planning.specs.Lasts.{lastAfter}
-use Rattle.planning.proofs.Lasts.{value-last, value-never}
-use Rattle.planning.proofs.Mosaics.{Uprights, value-upright}
-use Rattle.page.specs.declared.Screen.{Screen}
+use Rattle.screen_answers.specs.declared.Answer.{Answer}
+use Rattle.screen_answers.specs.declared.Answer.the-variants.{Taken, TooLarge, Broken}
+use Rattle.screen_pen.specs.declared.Last.the-variants.{Never}
+use Rattle.screen_pen.specs.declared.Pen.{Pen}
+use Rattle.screen_planning.specs.Planning.{ordered}
+use Rattle.screen_planning.specs.Lasts.{lastAfter}
+use Rattle.screen_planning.proofs.Lasts.{value-last, value-never}
+use Rattle.screen_planning.proofs.Mosaics.{Uprights, value-upright}
+use Rattle.screen_page.specs.declared.Screen.{Screen}
 use Rattle.screen.specs.Screens.{advanced, advancedBy}
 use Rattle.screen.specs.Calls.{leftBy, answered, stepped, ran}
 use Rattle.screen.proofs.Returned.{step-pen}

@@ -6,21 +6,21 @@ use Prim.Native.Nat.{ℕ, _+_, _<_}
 use lib.Dec.{ltb, eqb}
 use borrow.Author.Tests.{ltb-true}
 use Rattle.laws.proofs.Computed.{holds, Each, each}
-use Rattle.cursor.specs.declared.Place.{Place}
-use Rattle.cursor.specs.Places.{at}
-use Rattle.motion.specs.Moves.{rowBelow}
-use Rattle.sequences.specs.Hearing.{isFree}
-use Rattle.attributes.specs.declared.Waiting.{Waiting}
-use Rattle.attributes.specs.declared.Waiting.the-variants.{Nothing, Ground}
-use Rattle.attributes.specs.declared.Attributes.{Attributes}
-use Rattle.writing.specs.Writing.{takes, afterWaiting, cellOf}
-use Rattle.pen.specs.declared.Last.the-variants.{Character}
-use Rattle.pen.specs.declared.Pen.{Pen}
-use Rattle.pen.specs.declared.Stroke.{Stroke}
-use Rattle.pen.specs.Strokes.{stroke}
-use Rattle.planning.specs.Obeying.{puts}
-use Rattle.planning.specs.Planning.{planned}
-use Rattle.planning.proofs.Plans.{plan-text}
+use Rattle.screen_cursor.specs.declared.Place.{Place}
+use Rattle.screen_cursor.specs.Places.{at}
+use Rattle.screen_motion.specs.Moves.{rowBelow}
+use Rattle.screen_sequences.specs.Hearing.{isFree}
+use Rattle.screen_attributes.specs.declared.Waiting.{Waiting}
+use Rattle.screen_attributes.specs.declared.Waiting.the-variants.{Nothing, Ground}
+use Rattle.screen_attributes.specs.declared.Attributes.{Attributes}
+use Rattle.screen_writing.specs.Writing.{takes, afterWaiting, cellOf}
+use Rattle.screen_pen.specs.declared.Last.the-variants.{Character}
+use Rattle.screen_pen.specs.declared.Pen.{Pen}
+use Rattle.screen_pen.specs.declared.Stroke.{Stroke}
+use Rattle.screen_pen.specs.Strokes.{stroke}
+use Rattle.screen_planning.specs.Obeying.{puts}
+use Rattle.screen_planning.specs.Planning.{planned}
+use Rattle.screen_planning.proofs.Plans.{plan-text}
 use Rattle.screen.specs.Turns.{isNone, isPlain}
 
 -- a character with these attributes, and the cursor at this place after it

@@ -2,20 +2,20 @@
 use mathlib.Core.Path.{_≡_, refl, sym, ap, _∙_}
 use Prim.Native.Nat.{ℕ, _-_, _/_, _≤_, _<_}
 use Rattle.laws.proofs.Computed.{holds, fails}
-use Rattle.sequences.specs.declared.Sequence.{Sequence}
-use Rattle.sequences.specs.declared.Sequence.the-variants.{Free, Separator, Repeat, Single}
-use Rattle.sequences.specs.declared.Order.the-variants.{Skip, Second, Again}
-use Rattle.sequences.specs.Hearing.{isFree, isSeparator, does, control, heard}
-use Rattle.sequences.proofs.Codes.{heard-control, heard-dropped, heard-repeat, heard-low}
-use Rattle.sequences.proofs.Codes.{heard-second, heard-swallowed}
-use Rattle.pen.specs.declared.Last.{Last}
-use Rattle.pen.specs.declared.Last.the-variants.{Never, Character}
-use Rattle.planning.specs.declared.Planned.{Planned}
-use Rattle.planning.specs.Changing.{withSequence}
-use Rattle.planning.specs.Obeying.{again, obeyed}
-use Rattle.planning.specs.Planning.{planned}
-use Rattle.planning.proofs.Plans.{plannedBy, plan-heard, plan-text}
-use Rattle.page.specs.declared.Screen.{Screen}
+use Rattle.screen_sequences.specs.declared.Sequence.{Sequence}
+use Rattle.screen_sequences.specs.declared.Sequence.the-variants.{Free, Separator, Repeat, Single}
+use Rattle.screen_sequences.specs.declared.Order.the-variants.{Skip, Second, Again}
+use Rattle.screen_sequences.specs.Hearing.{isFree, isSeparator, does, control, heard}
+use Rattle.screen_sequences.proofs.Codes.{heard-control, heard-dropped, heard-repeat, heard-low}
+use Rattle.screen_sequences.proofs.Codes.{heard-second, heard-swallowed}
+use Rattle.screen_pen.specs.declared.Last.{Last}
+use Rattle.screen_pen.specs.declared.Last.the-variants.{Never, Character}
+use Rattle.screen_planning.specs.declared.Planned.{Planned}
+use Rattle.screen_planning.specs.Changing.{withSequence}
+use Rattle.screen_planning.specs.Obeying.{again, obeyed}
+use Rattle.screen_planning.specs.Planning.{planned}
+use Rattle.screen_planning.proofs.Plans.{plannedBy, plan-heard, plan-text}
+use Rattle.screen_page.specs.declared.Screen.{Screen}
 use Rattle.screen.specs.Screens.{written, writtenTimes, applied, advanced}
 use Rattle.screen.specs.Claims.{ended}
 use Rattle.screen.proofs.Beside.{applied-any}

@@ -3,22 +3,22 @@ use mathlib.Core.Path.{_≡_, refl, ap, _∙_}
 use mathlib.Core.List.{List, [], _∷_}
 use Prim.Native.Nat.{ℕ, zero, suc, _-_, _≤_}
 use lib.Dec.{lit≤}
-use Rattle.cursor.specs.Places.{at}
-use Rattle.sequences.specs.declared.Sequence.the-variants.{Free, Separator}
-use Rattle.attributes.specs.Attributing.{grounds}
-use Rattle.pen.specs.declared.Pen.{Pen}
-use Rattle.pen.specs.declared.Kept.{Kept}
-use Rattle.pen.specs.Strokes.{afterTimes}
-use Rattle.planning.specs.declared.Asked.{Asked}
-use Rattle.planning.specs.declared.Asked.the-variants.{Nothing, Blank, Put}
-use Rattle.planning.specs.Changing.{withSequence}
-use Rattle.planning.specs.Obeying.{startAt}
-use Rattle.planning.specs.Planning.{ordered, planned, finished, penAfter}
-use Rattle.planning.specs.Grounds.{fate, outcome}
-use Rattle.planning.proofs.Fates.{value-fate}
-use Rattle.planning.proofs.Row0.{kept-stays, entered, entering-row, lf-back}
-use Rattle.page.specs.declared.Screen.{Screen}
-use Rattle.page.specs.Pages.{withPen}
+use Rattle.screen_cursor.specs.Places.{at}
+use Rattle.screen_sequences.specs.declared.Sequence.the-variants.{Free, Separator}
+use Rattle.screen_attributes.specs.Attributing.{grounds}
+use Rattle.screen_pen.specs.declared.Pen.{Pen}
+use Rattle.screen_pen.specs.declared.Kept.{Kept}
+use Rattle.screen_pen.specs.Strokes.{afterTimes}
+use Rattle.screen_planning.specs.declared.Asked.{Asked}
+use Rattle.screen_planning.specs.declared.Asked.the-variants.{Nothing, Blank, Put}
+use Rattle.screen_planning.specs.Changing.{withSequence}
+use Rattle.screen_planning.specs.Obeying.{startAt}
+use Rattle.screen_planning.specs.Planning.{ordered, planned, finished, penAfter}
+use Rattle.screen_planning.specs.Grounds.{fate, outcome}
+use Rattle.screen_planning.proofs.Fates.{value-fate}
+use Rattle.screen_planning.proofs.Row0.{kept-stays, entered, entering-row, lf-back}
+use Rattle.screen_page.specs.declared.Screen.{Screen}
+use Rattle.screen_page.specs.Pages.{withPen}
 use Rattle.screen.specs.Screens.{written, writtenTimes, applied, advanced, advancedBy}
 use Rattle.screen.specs.Claims.{enteringRow0, StaysInRow0, done, next}
 use Rattle.screen.proofs.Repeated.{step-plan}

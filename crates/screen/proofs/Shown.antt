@@ -8,24 +8,24 @@ use lib.Dec.{eqb}
 use lib.ListN.{length, length-set, set, getD}
 use lib.Seq.{getD-set-same, getD-set-other}
 use borrow.Author.Tests.{eqb-true, eqb-false}
-use Rattle.cursor.specs.declared.Place.{Place}
-use Rattle.cursor.specs.Places.{On, indexOf}
-use Rattle.cursor.proofs.Tested.{index-low}
-use Rattle.motion.specs.Moves.{rightOf}
-use Rattle.sequences.specs.declared.Sequence.the-variants.{Repeat}
-use Rattle.cells.specs.declared.Cell.{Cell}
-use Rattle.cells.specs.Characters.{blankOf}
-use Rattle.attributes.specs.declared.Attributes.{Attributes}
-use Rattle.writing.specs.Writing.{afterWriting}
-use Rattle.writing.specs.Having.{Has, Alike}
-use Rattle.writing.proofs.Cells.{written-has, written-alike}
-use Rattle.writing.proofs.Takers.{written-twice}
-use Rattle.pen.specs.declared.Last.the-variants.{Character}
-use Rattle.pen.specs.declared.Pen.{Pen}
-use Rattle.pen.specs.Strokes.{stroke}
-use Rattle.page.specs.declared.Screen.{Screen}
-use Rattle.page.specs.Pages.{cellAt}
-use Rattle.page.specs.Ranges.{InScreen}
+use Rattle.screen_cursor.specs.declared.Place.{Place}
+use Rattle.screen_cursor.specs.Places.{On, indexOf}
+use Rattle.screen_cursor.proofs.Tested.{index-low}
+use Rattle.screen_motion.specs.Moves.{rightOf}
+use Rattle.screen_sequences.specs.declared.Sequence.the-variants.{Repeat}
+use Rattle.screen_cells.specs.declared.Cell.{Cell}
+use Rattle.screen_cells.specs.Characters.{blankOf}
+use Rattle.screen_attributes.specs.declared.Attributes.{Attributes}
+use Rattle.screen_writing.specs.Writing.{afterWriting}
+use Rattle.screen_writing.specs.Having.{Has, Alike}
+use Rattle.screen_writing.proofs.Cells.{written-has, written-alike}
+use Rattle.screen_writing.proofs.Takers.{written-twice}
+use Rattle.screen_pen.specs.declared.Last.the-variants.{Character}
+use Rattle.screen_pen.specs.declared.Pen.{Pen}
+use Rattle.screen_pen.specs.Strokes.{stroke}
+use Rattle.screen_page.specs.declared.Screen.{Screen}
+use Rattle.screen_page.specs.Pages.{cellAt}
+use Rattle.screen_page.specs.Ranges.{InScreen}
 use Rattle.screen.specs.Screens.{written, writtenTimes, advanced}
 use Rattle.screen.specs.Claims.{onwards, Among, here, later, ended}
 use Rattle.screen.proofs.Repeated.{again-step}

@@ -2,19 +2,19 @@
 use mathlib.Core.Path.{_∙_}
 use Prim.Native.Nat.{ℕ, zero, suc, _≤_}
 use lib.ListN.{length-set, length-append, length-take, length-replicate}
-use Rattle.cursor.specs.Places.{indexOf}
-use Rattle.cells.specs.Within.{Character}
-use Rattle.sheet.specs.Clearing.{cleared}
-use Rattle.sheet.proofs.Stays.{all-set, cleared-in}
-use Rattle.pen.specs.declared.Pen.{Pen}
-use Rattle.pen.specs.Pens.{InPen}
-use Rattle.pen.proofs.Stays.{after-in, stroke-cell}
-use Rattle.planning.specs.declared.Asked.{Asked}
-use Rattle.planning.specs.declared.Asked.the-variants.{Nothing, Blank, Put}
-use Rattle.planning.specs.Planning.{planned}
-use Rattle.planning.proofs.Stays.{InAsked, planned-in}
-use Rattle.page.specs.declared.Screen.{Screen}
-use Rattle.page.specs.Ranges.{InScreen}
+use Rattle.screen_cursor.specs.Places.{indexOf}
+use Rattle.screen_cells.specs.Within.{Character}
+use Rattle.screen_sheet.specs.Clearing.{cleared}
+use Rattle.screen_sheet.proofs.Stays.{all-set, cleared-in}
+use Rattle.screen_pen.specs.declared.Pen.{Pen}
+use Rattle.screen_pen.specs.Pens.{InPen}
+use Rattle.screen_pen.proofs.Stays.{after-in, stroke-cell}
+use Rattle.screen_planning.specs.declared.Asked.{Asked}
+use Rattle.screen_planning.specs.declared.Asked.the-variants.{Nothing, Blank, Put}
+use Rattle.screen_planning.specs.Planning.{planned}
+use Rattle.screen_planning.proofs.Stays.{InAsked, planned-in}
+use Rattle.screen_page.specs.declared.Screen.{Screen}
+use Rattle.screen_page.specs.Ranges.{InScreen}
 use Rattle.screen.specs.Screens.{written, writtenTimes, applied, advanced}
 
 pub written-in : {s : Screen} (a d : ℕ) → Character a d → InScreen s → InScreen (written s a d)

@@ -5,7 +5,7 @@ use Prim.Native.Nat.{ℕ, _+_, _<_}
 use native.Mathlib.Numerals.{add-one}
 use lib.ListN.{length, take, getD}
 use lib.Seq.{take-suc}
-use Rattle.page.specs.declared.Screen.{Screen}
+use Rattle.screen_page.specs.declared.Screen.{Screen}
 use Rattle.screen.specs.Screens.{advanced, advancedBy}
 
 -- some, then others

@@ -10,31 +10,31 @@ use lib.ListN.{getD}
 use lib.Seq.{getD-set-other}
 use borrow.Author.Tests.{eqb-true, eqb-false}
 use Rattle.laws.proofs.Computed.{each, holds, fails}
-use Rattle.cursor.specs.declared.Place.{Place}
-use Rattle.cursor.specs.Places.{at, On}
-use Rattle.cursor.specs.Places.{indexOf}
-use Rattle.cursor.proofs.Tested.{index-low}
-use Rattle.motion.specs.Moves.{rightOf}
-use Rattle.motion.proofs.Stays.{right-on}
-use Rattle.sequences.specs.declared.Sequence.{Sequence}
-use Rattle.sequences.specs.declared.Sequence.the-variants.{Separator}
-use Rattle.sequences.specs.Hearing.{isSeparator, control}
-use Rattle.sequences.proofs.Codes.{heard-control}
-use Rattle.cells.specs.declared.Cell.{Cell}
-use Rattle.cells.specs.Characters.{blankOf}
-use Rattle.sheet.specs.Clearing.{cleared}
-use Rattle.sheet.proofs.Blanked.{row-0-kept, others-blank}
-use Rattle.pen.specs.declared.Pen.{Pen}
-use Rattle.planning.specs.declared.Asked.{Asked}
-use Rattle.planning.specs.declared.Asked.the-variants.{Nothing, Blank, Put}
-use Rattle.planning.specs.Obeying.{obeyed}
-use Rattle.planning.specs.Planning.{planned}
-use Rattle.planning.specs.Reach.{writes, clears}
-use Rattle.planning.proofs.Plans.{plan-heard}
-use Rattle.planning.proofs.Reached.{Asks, plan-asks}
-use Rattle.page.specs.declared.Screen.{Screen}
-use Rattle.page.specs.Pages.{cellAt, withPen}
-use Rattle.page.specs.Ranges.{InScreen}
+use Rattle.screen_cursor.specs.declared.Place.{Place}
+use Rattle.screen_cursor.specs.Places.{at, On}
+use Rattle.screen_cursor.specs.Places.{indexOf}
+use Rattle.screen_cursor.proofs.Tested.{index-low}
+use Rattle.screen_motion.specs.Moves.{rightOf}
+use Rattle.screen_motion.proofs.Stays.{right-on}
+use Rattle.screen_sequences.specs.declared.Sequence.{Sequence}
+use Rattle.screen_sequences.specs.declared.Sequence.the-variants.{Separator}
+use Rattle.screen_sequences.specs.Hearing.{isSeparator, control}
+use Rattle.screen_sequences.proofs.Codes.{heard-control}
+use Rattle.screen_cells.specs.declared.Cell.{Cell}
+use Rattle.screen_cells.specs.Characters.{blankOf}
+use Rattle.screen_sheet.specs.Clearing.{cleared}
+use Rattle.screen_sheet.proofs.Blanked.{row-0-kept, others-blank}
+use Rattle.screen_pen.specs.declared.Pen.{Pen}
+use Rattle.screen_planning.specs.declared.Asked.{Asked}
+use Rattle.screen_planning.specs.declared.Asked.the-variants.{Nothing, Blank, Put}
+use Rattle.screen_planning.specs.Obeying.{obeyed}
+use Rattle.screen_planning.specs.Planning.{planned}
+use Rattle.screen_planning.specs.Reach.{writes, clears}
+use Rattle.screen_planning.proofs.Plans.{plan-heard}
+use Rattle.screen_planning.proofs.Reached.{Asks, plan-asks}
+use Rattle.screen_page.specs.declared.Screen.{Screen}
+use Rattle.screen_page.specs.Pages.{cellAt, withPen}
+use Rattle.screen_page.specs.Ranges.{InScreen}
 use Rattle.screen.specs.Screens.{written, writtenTimes, applied, advanced}
 use Rattle.screen.specs.Claims.{onwards, Among, here, later}
 use Rattle.screen.proofs.Repeated.{step-plan}

@@ -4,12 +4,12 @@ use Prim.Native.Nat.{ℕ}
 use lib.Dec.{ltb}
 use lib.ListN.{length}
 use Rattle.numbers.specs.Numbers.{Told, toldOf}
-use Rattle.answers.specs.declared.Answer.{Answer}
-use Rattle.answers.specs.declared.Answer.the-variants.{Taken, TooLarge, Broken}
-use Rattle.answers.specs.Answers.{answerTo}
+use Rattle.screen_answers.specs.declared.Answer.{Answer}
+use Rattle.screen_answers.specs.declared.Answer.the-variants.{Taken, TooLarge, Broken}
+use Rattle.screen_answers.specs.Answers.{answerTo}
 use Rattle.values.specs.Large.{firstLarge}
-use Rattle.page.specs.declared.Screen.{Screen}
-use Rattle.page.specs.Ranges.{broken}
+use Rattle.screen_page.specs.declared.Screen.{Screen}
+use Rattle.screen_page.specs.Ranges.{broken}
 use Rattle.screen.specs.declared.Stepped.{Stepped}
 use Rattle.screen.specs.declared.Ran.{Ran}
 use Rattle.screen.specs.Screens.{advanced, advancedBy}

@@ -3,13 +3,13 @@ use mathlib.Core.Path.{_≡_}
 use mathlib.Core.List.{List, [], _∷_, _++_}
 use Prim.Native.Nat.{ℕ, zero, suc}
 use lib.ListN.{replicate}
-use Rattle.cursor.specs.declared.Place.{Place}
-use Rattle.motion.specs.Moves.{rightOf}
-use Rattle.sequences.specs.declared.Sequence.the-variants.{Free}
-use Rattle.attributes.specs.Attributing.{startOf}
-use Rattle.planning.specs.Changing.{withSequence}
-use Rattle.page.specs.declared.Screen.{Screen}
-use Rattle.page.specs.Pages.{withPen}
+use Rattle.screen_cursor.specs.declared.Place.{Place}
+use Rattle.screen_motion.specs.Moves.{rightOf}
+use Rattle.screen_sequences.specs.declared.Sequence.the-variants.{Free}
+use Rattle.screen_attributes.specs.Attributing.{startOf}
+use Rattle.screen_planning.specs.Changing.{withSequence}
+use Rattle.screen_page.specs.declared.Screen.{Screen}
+use Rattle.screen_page.specs.Pages.{withPen}
 use Rattle.screen.specs.Screens.{advanced}
 use Rattle.screen.specs.Calls.{stepped}
 

@@ -2,15 +2,15 @@
 use mathlib.Core.List.{List, [], _∷_}
 use Prim.Native.Nat.{ℕ, zero, suc}
 use lib.ListN.{set}
-use Rattle.cursor.specs.Places.{indexOf}
-use Rattle.sheet.specs.Clearing.{cleared}
-use Rattle.pen.specs.declared.Pen.{Pen}
-use Rattle.pen.specs.Strokes.{stroke}
-use Rattle.planning.specs.declared.Asked.{Asked}
-use Rattle.planning.specs.declared.Asked.the-variants.{Nothing, Blank, Put}
-use Rattle.planning.specs.Planning.{planned}
-use Rattle.page.specs.declared.Screen.{Screen}
-use Rattle.page.specs.Pages.{withPen}
+use Rattle.screen_cursor.specs.Places.{indexOf}
+use Rattle.screen_sheet.specs.Clearing.{cleared}
+use Rattle.screen_pen.specs.declared.Pen.{Pen}
+use Rattle.screen_pen.specs.Strokes.{stroke}
+use Rattle.screen_planning.specs.declared.Asked.{Asked}
+use Rattle.screen_planning.specs.declared.Asked.the-variants.{Nothing, Blank, Put}
+use Rattle.screen_planning.specs.Planning.{planned}
+use Rattle.screen_page.specs.declared.Screen.{Screen}
+use Rattle.screen_page.specs.Pages.{withPen}
 
 -- "FF: rows 1 to 24 blank, row 0 kept"
 abbrev pub blanked : Screen → Pen → Screen

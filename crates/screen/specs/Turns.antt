@@ -2,15 +2,15 @@
 use mathlib.Core.Bool.{Bool, true, false, _&&_, cond}
 use Prim.Native.Nat.{ℕ}
 use lib.Dec.{ltb, eqb}
-use Rattle.cursor.specs.Places.{indexOf}
-use Rattle.sequences.specs.Hearing.{isFree}
-use Rattle.attributes.specs.declared.Waiting.{Waiting}
-use Rattle.attributes.specs.declared.Waiting.the-variants.{Nothing, Ground}
-use Rattle.pen.specs.declared.Pen.{Pen}
-use Rattle.pen.specs.Strokes.{stroke}
-use Rattle.planning.specs.declared.Asked.{Asked}
-use Rattle.planning.specs.declared.Asked.the-variants.{Nothing as NothingAsked, Blank, Put}
-use Rattle.planning.specs.Planning.{planned}
+use Rattle.screen_cursor.specs.Places.{indexOf}
+use Rattle.screen_sequences.specs.Hearing.{isFree}
+use Rattle.screen_attributes.specs.declared.Waiting.{Waiting}
+use Rattle.screen_attributes.specs.declared.Waiting.the-variants.{Nothing, Ground}
+use Rattle.screen_pen.specs.declared.Pen.{Pen}
+use Rattle.screen_pen.specs.Strokes.{stroke}
+use Rattle.screen_planning.specs.declared.Asked.{Asked}
+use Rattle.screen_planning.specs.declared.Asked.the-variants.{Nothing as NothingAsked, Blank, Put}
+use Rattle.screen_planning.specs.Planning.{planned}
 use Rattle.screen.specs.declared.turns.Turn.{Turn}
 use Rattle.screen.specs.declared.turns.Turn.the-variants.{Moved, Typed, More}
 

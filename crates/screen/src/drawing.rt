@@ -1,10 +1,10 @@
 // What is done to the cells: nothing, rows 1 to 24 blank, or a character written so many times.
 ghost use mathlib.Core.Path.{_≡_};
-ghost use Rattle.cursor.specs.Places.{On};
+ghost use Rattle.screen_cursor.specs.Places.{On};
 ghost use Rattle.screen.specs.Screens.{writtenTimes, applied};
-use page::Screen;
-use pen::Pen;
-use planning::Asked;
+use screen_page::Screen;
+use screen_pen::Pen;
+use screen_planning::Asked;
 
 // A character, so many times.
 fn write(mut screen: Screen, set: u8, code: u8, times: u8) -> Screen
@@ -34,7 +34,7 @@ pub(crate) fn apply(mut screen: Screen, pen: Pen, asked: Asked) -> Screen
         Asked::Nothing => screen,
         Asked::Blank => {
             let old = screen.cells;
-            let cells = sheet::clear(old);
+            let cells = screen_sheet::clear(old);
             Screen { cells, pen }
         }
         Asked::Put { set, code, times } => write(screen, set, code, times),

@@ -10,11 +10,11 @@ mod drawing;
 mod pieces;
 mod turns;
 
-pub use answers::Answer;
-use answers::answer_to;
 use drawing::apply;
-use page::Screen;
 use pieces::advance;
+pub use screen_answers::Answer;
+use screen_answers::answer_to;
+use screen_page::Screen;
 
 pub struct Stepped {
     pub screen: Screen,
@@ -36,7 +36,7 @@ pub fn step(screen: Screen, value: u8) -> Stepped
     let Answer::Taken = answer else {
         return Stepped { screen, answer };
     };
-    let planned = planning::plan(screen.pen, value);
+    let planned = screen_planning::plan(screen.pen, value);
     let pen = planned.pen;
     let asked = planned.asked;
     let screen = apply(screen, pen, asked);

@@ -3,14 +3,14 @@
 ghost use mathlib.Core.Path.{_≡_};
 ghost use mathlib.Core.Bool.{true};
 ghost use Rattle.values.specs.Large.{Values};
-ghost use Rattle.page.specs.Ranges.{inRange};
+ghost use Rattle.screen_page.specs.Ranges.{inRange};
 ghost use Rattle.screen.specs.Screens.{advancedBy};
 use crate::drawing::apply;
 use crate::turns::Turn;
 use crate::turns::is_plain;
 use crate::turns::take;
 use crate::turns::write_plainly;
-use page::Screen;
+use screen_page::Screen;
 
 pub(crate) fn advance(start: Screen, values: &[u8]) -> Screen
     requires { ⌜ inRange start ≡ true ⌝ }

@@ -2,18 +2,18 @@
 ghost use mathlib.Core.Path.{_≡_};
 ghost use mathlib.Core.Bool.{true};
 ghost use Prim.Native.Nat.{_≤_};
-ghost use Rattle.pen.specs.Pens.{InPen};
-ghost use Rattle.pen.specs.Strokes.{stroke};
+ghost use Rattle.screen_pen.specs.Pens.{InPen};
+ghost use Rattle.screen_pen.specs.Strokes.{stroke};
 ghost use Rattle.screen.specs.Turns.{isPlain, turnFor, turned};
-use attributes::Waiting;
-use cells::Cell;
-use cursor::Place;
-use pen::Last;
-use pen::Pen;
-use pen::Stroke;
-use planning::Asked;
-use planning::plan;
-use sequences::Sequence;
+use screen_attributes::Waiting;
+use screen_cells::Cell;
+use screen_cursor::Place;
+use screen_pen::Last;
+use screen_pen::Pen;
+use screen_pen::Stroke;
+use screen_planning::Asked;
+use screen_planning::plan;
+use screen_sequences::Sequence;
 
 // What is left to do with the cells.
 pub(crate) enum Turn {

@@ -2,10 +2,10 @@
 use mathlib.Core.Path.{_≡_, refl}
 use mathlib.Core.List.{List, [], _∷_}
 use Prim.Native.Nat.{ℕ}
-use Rattle.cursor.specs.Places.{at}
-use Rattle.addresses.specs.declared.Address.{Address}
-use Rattle.addresses.specs.declared.Address.the-variants.{Nowhere, There}
-use Rattle.addresses.specs.Addressing.{addressed}
+use Rattle.screen_cursor.specs.Places.{at}
+use Rattle.screen_addresses.specs.declared.Address.{Address}
+use Rattle.screen_addresses.specs.declared.Address.the-variants.{Nowhere, There}
+use Rattle.screen_addresses.specs.Addressing.{addressed}
 
 -- a code for the row and one for the column name this
 abbrev Names : List (ℕ × ℕ × Address) → Type 0

@@ -3,8 +3,8 @@
 // specs/Addressing says which; proofs/Corners writes out the corners and what lies beyond, and proofs/Stays shows that
 // the place lies on the screen.
 ghost use mathlib.Core.Path.{_≡_};
-ghost use Rattle.addresses.specs.Addressing.{addressed};
-use cursor::Place;
+ghost use Rattle.screen_addresses.specs.Addressing.{addressed};
+use screen_cursor::Place;
 
 // Where US and its two codes lead.
 pub enum Address {

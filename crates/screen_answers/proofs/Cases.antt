@@ -3,9 +3,9 @@ use mathlib.Core.Path.{_≡_, refl}
 use mathlib.Core.Bool.{Bool, true, false}
 use mathlib.Core.List.{List, [], _∷_}
 use Prim.Native.Nat.{ℕ}
-use Rattle.answers.specs.declared.Answer.{Answer}
-use Rattle.answers.specs.declared.Answer.the-variants.{Taken, TooLarge, Broken}
-use Rattle.answers.specs.Answers.{answerTo}
+use Rattle.screen_answers.specs.declared.Answer.{Answer}
+use Rattle.screen_answers.specs.declared.Answer.the-variants.{Taken, TooLarge, Broken}
+use Rattle.screen_answers.specs.Answers.{answerTo}
 
 -- whether the state is broken, the lowest place of a value too large, how many values there are, and the answer
 abbrev Answers : List (Bool × ℕ × ℕ × Answer) → Type 0

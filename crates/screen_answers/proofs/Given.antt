@@ -6,9 +6,9 @@ use native.Mathlib.Omega.{arith}
 use lib.Dec.{ltb}
 use borrow.Author.Tests.{ltb-false}
 use Rattle.numbers.specs.Numbers.{toldOf}
-use Rattle.answers.specs.declared.Answer.{Answer}
-use Rattle.answers.specs.declared.Answer.the-variants.{Taken, TooLarge}
-use Rattle.answers.specs.Answers.{told, answerTo}
+use Rattle.screen_answers.specs.declared.Answer.{Answer}
+use Rattle.screen_answers.specs.declared.Answer.the-variants.{Taken, TooLarge}
+use Rattle.screen_answers.specs.Answers.{told, answerTo}
 
 -- the law of the numbers
 pub answer-told : (b : Bool) (i n : ℕ) → told (answerTo b i n) ≡ toldOf b (ltb i n) i

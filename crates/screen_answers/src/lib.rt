@@ -2,7 +2,7 @@
 // says which answer comes of the conditions, proofs/Cases writes some out, and proofs/Given shows that the answer has
 // the number that the paper gives them.
 ghost use mathlib.Core.Path.{_≡_};
-ghost use Rattle.answers.specs.Answers.{answerTo};
+ghost use Rattle.screen_answers.specs.Answers.{answerTo};
 
 // What a call answers: the paper's 0, 2 and 5.
 pub enum Answer {

@@ -2,9 +2,9 @@
 use mathlib.Core.Path.{_≡_, refl}
 use mathlib.Core.Bool.{true, false}
 use mathlib.Core.List.{List, [], _∷_}
-use Rattle.attributes.specs.declared.Waiting.the-variants.{Nothing, Ground}
-use Rattle.attributes.specs.declared.Attributes.{Attributes}
-use Rattle.attributes.specs.Attributing.{attributes, startOf, shiftedOut, shiftedIn}
+use Rattle.screen_attributes.specs.declared.Waiting.the-variants.{Nothing, Ground}
+use Rattle.screen_attributes.specs.declared.Attributes.{Attributes}
+use Rattle.screen_attributes.specs.Attributing.{attributes, startOf, shiftedOut, shiftedIn}
 
 -- "Current attributes at the start: set G0, ink 7, ground 0, none waiting, no flash, not inverse"
 pub start-is : (startOf .set ≡ 0) × (startOf .ink ≡ 7) × (startOf .ground ≡ 0) × (startOf .waiting ≡ Nothing)

@@ -5,11 +5,11 @@ use mathlib.Core.List.{[], _∷_}
 use lib.Dec.{leb, lit≤}
 use borrow.Author.Tests.{leb-true, le-leb}
 use Rattle.laws.proofs.Computed.{each}
-use Rattle.attributes.specs.declared.Waiting.{Waiting}
-use Rattle.attributes.specs.declared.Waiting.the-variants.{Nothing, Ground}
-use Rattle.attributes.specs.declared.Attributes.{Attributes}
-use Rattle.attributes.specs.Attributing.{startOf, shiftedOut, shiftedIn}
-use Rattle.attributes.specs.Within.{goodWaiting, good, InWaiting, InForce}
+use Rattle.screen_attributes.specs.declared.Waiting.{Waiting}
+use Rattle.screen_attributes.specs.declared.Waiting.the-variants.{Nothing, Ground}
+use Rattle.screen_attributes.specs.declared.Attributes.{Attributes}
+use Rattle.screen_attributes.specs.Attributing.{startOf, shiftedOut, shiftedIn}
+use Rattle.screen_attributes.specs.Within.{goodWaiting, good, InWaiting, InForce}
 
 -- ---- the test is the ranges
 

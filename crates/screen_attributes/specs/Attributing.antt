@@ -2,9 +2,9 @@
 use mathlib.Core.Path.{_≡_}
 use mathlib.Core.Bool.{Bool, false}
 use Prim.Native.Nat.{ℕ}
-use Rattle.attributes.specs.declared.Waiting.{Waiting}
-use Rattle.attributes.specs.declared.Waiting.the-variants.{Nothing}
-use Rattle.attributes.specs.declared.Attributes.{Attributes}
+use Rattle.screen_attributes.specs.declared.Waiting.{Waiting}
+use Rattle.screen_attributes.specs.declared.Waiting.the-variants.{Nothing}
+use Rattle.screen_attributes.specs.declared.Attributes.{Attributes}
 
 abbrev pub attributes : ℕ → ℕ → ℕ → Waiting → Bool → Bool → Attributes
 attributes s i g w f v = record { set = s; ink = i; ground = g; waiting = w; flash = f; inverse = v }

@@ -1,11 +1,11 @@
-// The attributes in force (01, "Screen cells"): those at the start, and SO and SI. `pairs` has what ESC does to them,
-// and `writing` the character that is written with them.
+// The attributes in force (01, "Screen cells"): those at the start, and SO and SI. `screen_escapes` has what ESC does
+// to them, and `screen_writing` the character that is written with them.
 //
 // specs/Attributing says what changes them, specs/Within what is in range; proofs/Cases writes the start, SO and SI
 // out, proofs/Stays shows that attributes in range stay so, and proofs/Mosaics that nothing is inverse while G1 is
 // current.
 ghost use mathlib.Core.Path.{_≡_};
-ghost use Rattle.attributes.specs.Attributing.{startOf, shiftedOut, shiftedIn};
+ghost use Rattle.screen_attributes.specs.Attributing.{startOf, shiftedOut, shiftedIn};
 
 // A ground that waits for the character that takes it.
 pub enum Waiting {

@@ -3,8 +3,8 @@ use mathlib.Core.Path.{_≡_, refl}
 use mathlib.Core.Bool.{Bool, true, false}
 use mathlib.Core.List.{List, [], _∷_}
 use Prim.Native.Nat.{ℕ}
-use Rattle.cells.specs.Characters.{blankOf}
-use Rattle.cells.specs.Within.{goodCharacter}
+use Rattle.screen_cells.specs.Characters.{blankOf}
+use Rattle.screen_cells.specs.Within.{goodCharacter}
 
 -- "A blank cell has set G1, code 2/0, ink 7, ground 0, no flash, not inverse"
 pub blank-is : (blankOf .set ∷ blankOf .code ∷ blankOf .ink ∷ blankOf .ground ∷ [] ≡ 1 ∷ 32 ∷ 7 ∷ 0 ∷ [])

@@ -6,7 +6,7 @@ use Prim.Native.Nat.{ℕ}
 use lib.Dec.{leb}
 use borrow.Author.Tests.{leb-true, le-leb}
 use Rattle.laws.proofs.Computed.{each}
-use Rattle.cells.specs.Within.{goodCharacter, Character}
+use Rattle.screen_cells.specs.Within.{goodCharacter, Character}
 
 pub character-true : {s d : ℕ} → Character s d → goodCharacter s d ≡ true
 unfolding goodCharacter

@@ -3,7 +3,7 @@
 use mathlib.Core.Bool.{Bool, _&&_}
 use Prim.Native.Nat.{ℕ, _≤_}
 use lib.Dec.{leb}
-use Rattle.cells.specs.declared.Cell.{Cell}
+use Rattle.screen_cells.specs.declared.Cell.{Cell}
 
 -- ---- the test
 

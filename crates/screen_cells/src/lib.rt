@@ -1,11 +1,11 @@
-// A cell of the screen (01, "Screen cells"), and what a character on it is. `sheet` has all thousand of them.
+// A cell of the screen (01, "Screen cells"), and what a character on it is. `screen_sheet` has all thousand of them.
 //
 // Sets, codes and colours are numbers, so that any can be handed in; the tests say which are in range. specs/Characters
 // says what a blank cell is, specs/Within what is in range; proofs/Tested ties the test to it, and proofs/Cases writes
 // both out.
 ghost use mathlib.Core.Path.{_≡_};
-ghost use Rattle.cells.specs.Characters.{blankOf};
-ghost use Rattle.cells.specs.Within.{goodCharacter};
+ghost use Rattle.screen_cells.specs.Characters.{blankOf};
+ghost use Rattle.screen_cells.specs.Within.{goodCharacter};
 
 // A character on the screen. Sets 0, 1 and 2 are G0, G1 and G2; colours are 0 to 7.
 pub struct Cell {

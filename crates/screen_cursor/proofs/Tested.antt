@@ -7,8 +7,8 @@ use native.Mathlib.Omega.{arith}
 use lib.Dec.{leb, lit≤}
 use borrow.Author.Tests.{leb-true, le-leb}
 use Rattle.laws.proofs.Computed.{each}
-use Rattle.cursor.specs.declared.Place.{Place}
-use Rattle.cursor.specs.Places.{home, On, onScreen, indexOf}
+use Rattle.screen_cursor.specs.declared.Place.{Place}
+use Rattle.screen_cursor.specs.Places.{home, On, onScreen, indexOf}
 
 pub on-true : (p : Place) → On p → onScreen p ≡ true
 on-true p h = simp (le-leb _ _ (h .row), le-leb _ _ (h .low), le-leb _ _ (h .high))

@@ -2,7 +2,7 @@
 use mathlib.Core.Bool.{Bool, _&&_}
 use Prim.Native.Nat.{ℕ, _+_, _-_, _*_, _≤_}
 use lib.Dec.{leb}
-use Rattle.cursor.specs.declared.Place.{Place}
+use Rattle.screen_cursor.specs.declared.Place.{Place}
 
 abbrev pub at : ℕ → ℕ → Place
 at r c = record { row = r; column = c }

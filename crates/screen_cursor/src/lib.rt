@@ -1,10 +1,10 @@
-// The cursor's place on the screen (01, "Screen cells"). `motion` has its moves by one, and `addresses` the place that
-// US names.
+// The cursor's place on the screen (01, "Screen cells"). `screen_motion` has its moves by one, and `screen_addresses`
+// the place that US names.
 //
 // specs/Places says which places lie on the screen, and where their cells lie; proofs/Tested ties the test to it, and
 // proofs/Corners writes the corners out.
 ghost use mathlib.Core.Path.{_≡_};
-ghost use Rattle.cursor.specs.Places.{onScreen, indexOf};
+ghost use Rattle.screen_cursor.specs.Places.{onScreen, indexOf};
 
 // Rows count from 0, columns from 1.
 pub struct Place {

@@ -1,9 +1,9 @@
 -- A fresh screen: no last character, and nothing inverse. Assumes nothing.
 use mathlib.Core.Path.{_≡_, refl}
-use Rattle.attributes.specs.Attributing.{Upright}
-use Rattle.pen.specs.declared.Last.the-variants.{Never}
-use Rattle.page.specs.Pages.{freshScreen}
-use Rattle.planning.proofs.Mosaics.{fresh-upright as pen-upright}
+use Rattle.screen_attributes.specs.Attributing.{Upright}
+use Rattle.screen_pen.specs.declared.Last.the-variants.{Never}
+use Rattle.screen_page.specs.Pages.{freshScreen}
+use Rattle.screen_planning.proofs.Mosaics.{fresh-upright as pen-upright}
 
 pub fresh-never : freshScreen .pen .last ≡ Never
 unfolding freshScreen

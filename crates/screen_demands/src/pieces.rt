@@ -3,9 +3,9 @@ ghost use mathlib.Core.Path.{_≡_};
 ghost use mathlib.Core.List.{List, _++_};
 ghost use Prim.Native.Nat.{ℕ};
 ghost use Rattle.values.specs.Large.{Values};
-ghost use Rattle.page.specs.declared.Screen.{Screen};
-ghost use Rattle.page.specs.Ranges.{InScreen};
-ghost use Rattle.answers.specs.declared.Answer.the-variants.{Taken};
+ghost use Rattle.screen_page.specs.declared.Screen.{Screen};
+ghost use Rattle.screen_page.specs.Ranges.{InScreen};
+ghost use Rattle.screen_answers.specs.declared.Answer.the-variants.{Taken};
 ghost use Rattle.screen.specs.Calls.{runsTo, ran};
 ghost use Rattle.screen.specs.Claims.{singly};
 

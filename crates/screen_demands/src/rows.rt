@@ -2,12 +2,12 @@
 ghost use mathlib.Core.Path.{_≡_};
 ghost use mathlib.Core.List.{List, [], _∷_};
 ghost use Prim.Native.Nat.{ℕ, _≤_};
-ghost use Rattle.cursor.specs.declared.Place.{Place};
-ghost use Rattle.motion.specs.Moves.{leftOf, rightOf, upOf, downOf, firstOf};
-ghost use Rattle.motion.specs.Rows.{SameSide};
-ghost use Rattle.sequences.specs.declared.Sequence.the-variants.{Separator};
-ghost use Rattle.page.specs.declared.Screen.{Screen};
-ghost use Rattle.page.specs.Pages.{freshScreen};
+ghost use Rattle.screen_cursor.specs.declared.Place.{Place};
+ghost use Rattle.screen_motion.specs.Moves.{leftOf, rightOf, upOf, downOf, firstOf};
+ghost use Rattle.screen_motion.specs.Rows.{SameSide};
+ghost use Rattle.screen_sequences.specs.declared.Sequence.the-variants.{Separator};
+ghost use Rattle.screen_page.specs.declared.Screen.{Screen};
+ghost use Rattle.screen_page.specs.Pages.{freshScreen};
 ghost use Rattle.screen.specs.Screens.{advanced, advancedBy};
 ghost use Rattle.screen.specs.Claims.{enteringRow0, StaysInRow0};
 

@@ -6,10 +6,10 @@ use Prim.Native.Nat.{ℕ, _/_, _%_}
 use lib.Dec.{ltb, eqb}
 use borrow.Author.Tests.{eqb-true}
 use Rattle.laws.proofs.Computed.{each, chosen}
-use Rattle.attributes.specs.declared.Waiting.the-variants.{Ground}
-use Rattle.attributes.specs.declared.Attributes.{Attributes}
-use Rattle.attributes.specs.Attributing.{grounds}
-use Rattle.pairs.specs.Pairing.{columnFour, columnFive, paired, namesGround}
+use Rattle.screen_attributes.specs.declared.Waiting.the-variants.{Ground}
+use Rattle.screen_attributes.specs.declared.Attributes.{Attributes}
+use Rattle.screen_attributes.specs.Attributing.{grounds}
+use Rattle.screen_escapes.specs.Pairing.{columnFour, columnFive, paired, namesGround}
 
 -- what a code of column 4 leaves
 four-grounds : (a : Attributes) (n : ℕ) → grounds (columnFour a n) ≡ grounds a

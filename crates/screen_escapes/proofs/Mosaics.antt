@@ -4,9 +4,9 @@ use Prim.Native.Nat.{ℕ, _/_, _%_}
 use lib.Dec.{ltb, eqb}
 use borrow.Author.Tests.{eqb-false}
 use Rattle.laws.proofs.Computed.{chosen}
-use Rattle.attributes.specs.declared.Attributes.{Attributes}
-use Rattle.attributes.specs.Attributing.{Upright}
-use Rattle.pairs.specs.Pairing.{columnFour, columnFive, paired}
+use Rattle.screen_attributes.specs.declared.Attributes.{Attributes}
+use Rattle.screen_attributes.specs.Attributing.{Upright}
+use Rattle.screen_escapes.specs.Pairing.{columnFour, columnFive, paired}
 
 four-upright : (a : Attributes) (n : ℕ) → Upright a → Upright (columnFour a n)
 four-upright a n h =

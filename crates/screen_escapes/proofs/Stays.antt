@@ -5,10 +5,10 @@ use native.Mathlib.Omega.{arith}
 use lib.Dec.{ltb, eqb}
 use borrow.Author.Tests.{ltb-true}
 use Rattle.laws.proofs.Computed.{chosen}
-use Rattle.attributes.specs.declared.Attributes.{Attributes}
-use Rattle.attributes.specs.Attributing.{attributes}
-use Rattle.attributes.specs.Within.{InForce}
-use Rattle.pairs.specs.Pairing.{columnFour, columnFive, paired}
+use Rattle.screen_attributes.specs.declared.Attributes.{Attributes}
+use Rattle.screen_attributes.specs.Attributing.{attributes}
+use Rattle.screen_attributes.specs.Within.{InForce}
+use Rattle.screen_escapes.specs.Pairing.{columnFour, columnFive, paired}
 
 -- no range speaks of flash or inverse
 plain : {a : Attributes} (f v : Bool) → InForce a

@@ -2,9 +2,9 @@
 use mathlib.Core.Bool.{Bool, true, false, cond, _&&_}
 use Prim.Native.Nat.{ℕ, _/_, _%_}
 use lib.Dec.{ltb, eqb}
-use Rattle.attributes.specs.declared.Waiting.the-variants.{Ground}
-use Rattle.attributes.specs.declared.Attributes.{Attributes}
-use Rattle.attributes.specs.Attributing.{attributes}
+use Rattle.screen_attributes.specs.declared.Waiting.the-variants.{Ground}
+use Rattle.screen_attributes.specs.declared.Attributes.{Attributes}
+use Rattle.screen_attributes.specs.Attributing.{attributes}
 
 abbrev pub withInk : Attributes → ℕ → Attributes
 withInk a n = attributes (a .set) n (a .ground) (a .waiting) (a .flash) (a .inverse)

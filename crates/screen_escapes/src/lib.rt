@@ -3,9 +3,9 @@
 // specs/Pairing says what each pair does; proofs/Cases writes pairs out, proofs/Stays shows that attributes in range
 // stay so, proofs/Grounds what a pair does to grounds, and proofs/Mosaics that none makes G1 inverse.
 ghost use mathlib.Core.Path.{_≡_};
-ghost use Rattle.pairs.specs.Pairing.{waitsFor, columnFour, columnFive, paired};
-use attributes::Attributes;
-use attributes::Waiting;
+ghost use Rattle.screen_escapes.specs.Pairing.{waitsFor, columnFour, columnFive, paired};
+use screen_attributes::Attributes;
+use screen_attributes::Waiting;
 
 // ESC and a code of column 4.
 fn column_four(mut attributes: Attributes, row: u8) -> Attributes

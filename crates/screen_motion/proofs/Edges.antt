@@ -1,9 +1,9 @@
 -- Each move at every edge of the screen, written out (01, "Screen cells"). Assumes nothing.
 use mathlib.Core.Path.{_≡_, refl}
 use mathlib.Core.List.{List, [], _∷_}
-use Rattle.cursor.specs.declared.Place.{Place}
-use Rattle.cursor.specs.Places.{at}
-use Rattle.motion.specs.Moves.{leftOf, rightOf, upOf, downOf, firstOf}
+use Rattle.screen_cursor.specs.declared.Place.{Place}
+use Rattle.screen_cursor.specs.Places.{at}
+use Rattle.screen_motion.specs.Moves.{leftOf, rightOf, upOf, downOf, firstOf}
 
 -- the move leads from the first place of each pair to the second
 abbrev Leads : (Place → Place) → List (Place × Place) → Type 0

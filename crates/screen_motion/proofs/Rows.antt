@@ -5,9 +5,9 @@ use native.Mathlib.Omega.{arith}
 use lib.Dec.{ltb, eqb, lit≤}
 use borrow.Author.Tests.{ltb-true, eq-eqb, le-ltb}
 use Rattle.laws.proofs.Computed.{chosen}
-use Rattle.cursor.specs.declared.Place.{Place}
-use Rattle.motion.specs.Moves.{rowBelow, rowAbove, leftOf, rightOf, upOf, downOf, firstOf}
-use Rattle.motion.specs.Rows.{SameSide}
+use Rattle.screen_cursor.specs.declared.Place.{Place}
+use Rattle.screen_motion.specs.Moves.{rowBelow, rowAbove, leftOf, rightOf, upOf, downOf, firstOf}
+use Rattle.screen_motion.specs.Rows.{SameSide}
 
 below-one : (r : ℕ) → 1 ≤ rowBelow r
 below-one r = chosen (λ (x : ℕ). 1 ≤ x) (ltb r 24) (λ e. omega arith) (λ e. lit≤ tt)

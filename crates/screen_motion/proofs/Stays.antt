@@ -4,9 +4,9 @@ use native.Mathlib.Omega.{arith}
 use lib.Dec.{ltb, eqb, lit≤}
 use borrow.Author.Tests.{ltb-true}
 use Rattle.laws.proofs.Computed.{chosen}
-use Rattle.cursor.specs.declared.Place.{Place}
-use Rattle.cursor.specs.Places.{On}
-use Rattle.motion.specs.Moves.{rowBelow, rowAbove, leftOf, rightOf, upOf, downOf, firstOf}
+use Rattle.screen_cursor.specs.declared.Place.{Place}
+use Rattle.screen_cursor.specs.Places.{On}
+use Rattle.screen_motion.specs.Moves.{rowBelow, rowAbove, leftOf, rightOf, upOf, downOf, firstOf}
 
 below-low : (r : ℕ) → rowBelow r ≤ 24
 below-low r = chosen (λ (x : ℕ). x ≤ 24) (ltb r 24) (λ e. omega (arith, ltb-true r 24 e)) (λ e. lit≤ tt)

@@ -1,7 +1,7 @@
 -- Row 0 and the rows below it. Assumes nothing.
 use mathlib.Core.Path.{_≡_}
 use Prim.Native.Nat.{_≤_}
-use Rattle.cursor.specs.declared.Place.{Place}
+use Rattle.screen_cursor.specs.declared.Place.{Place}
 
 -- two places are both in row 0, or both in rows below it
 pub record SameSide (p q : Place) : Type 0 where

@@ -4,8 +4,8 @@
 // writes out where each leads at every edge, proofs/Stays shows that no move leaves the screen, and proofs/Rows that
 // none enters row 0 or leaves it.
 ghost use mathlib.Core.Path.{_≡_};
-ghost use Rattle.motion.specs.Moves.{rowBelow, rowAbove, leftOf, rightOf, upOf, downOf, firstOf};
-use cursor::Place;
+ghost use Rattle.screen_motion.specs.Moves.{rowBelow, rowAbove, leftOf, rightOf, upOf, downOf, firstOf};
+use screen_cursor::Place;
 
 // Row 24 joins row 1.
 fn row_below(row: u8) -> u8

@@ -4,18 +4,18 @@ use mathlib.Core.Bool.{Bool, true, false, cond}
 use mathlib.Core.List.{[], _∷_}
 use Prim.Native.Nat.{ℕ}
 use lib.ListN.{getD-replicate}
-use Rattle.cursor.specs.declared.Place.{Place}
-use Rattle.cursor.specs.Places.{at, On, onScreen, indexOf}
-use Rattle.cursor.proofs.Tested.{on-true, true-on, index-low}
-use Rattle.cells.specs.Characters.{blankOf}
-use Rattle.page.specs.declared.Screen.{Screen}
-use Rattle.page.specs.declared.Read.{Read}
-use Rattle.page.specs.declared.Read.the-variants.{Broken as Unread, Off, There}
-use Rattle.page.specs.declared.Cursor.{Cursor}
-use Rattle.page.specs.declared.Cursor.the-variants.{Broken as Lost, Hidden, Shown}
-use Rattle.page.specs.Pages.{freshScreen, cellAt}
-use Rattle.page.specs.Ranges.{broken}
-use Rattle.page.specs.Reading.{read, pointed, readNumber, cursorNumber}
+use Rattle.screen_cursor.specs.declared.Place.{Place}
+use Rattle.screen_cursor.specs.Places.{at, On, onScreen, indexOf}
+use Rattle.screen_cursor.proofs.Tested.{on-true, true-on, index-low}
+use Rattle.screen_cells.specs.Characters.{blankOf}
+use Rattle.screen_page.specs.declared.Screen.{Screen}
+use Rattle.screen_page.specs.declared.Read.{Read}
+use Rattle.screen_page.specs.declared.Read.the-variants.{Broken as Unread, Off, There}
+use Rattle.screen_page.specs.declared.Cursor.{Cursor}
+use Rattle.screen_page.specs.declared.Cursor.the-variants.{Broken as Lost, Hidden, Shown}
+use Rattle.screen_page.specs.Pages.{freshScreen, cellAt}
+use Rattle.screen_page.specs.Ranges.{broken}
+use Rattle.screen_page.specs.Reading.{read, pointed, readNumber, cursorNumber}
 
 -- ---- numbers: 5 for a broken screen, and else 0
 

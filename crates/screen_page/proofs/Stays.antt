@@ -4,14 +4,14 @@ use mathlib.Core.Bool.{Bool, true, false, not}
 use mathlib.Core.List.{[], _∷_}
 use lib.ListN.{length, length-replicate}
 use Rattle.laws.proofs.Computed.{each}
-use Rattle.cells.specs.Characters.{blankOf}
-use Rattle.sheet.specs.Within.{allGood}
-use Rattle.sheet.proofs.Stays.{all-true, true-all, blanks-in}
-use Rattle.pen.specs.Pens.{inRange as penInRange, InPen}
-use Rattle.pen.proofs.Stays.{pen-true, true-pen, fresh-in}
-use Rattle.page.specs.declared.Screen.{Screen}
-use Rattle.page.specs.Pages.{freshScreen}
-use Rattle.page.specs.Ranges.{inRange, broken, InScreen}
+use Rattle.screen_cells.specs.Characters.{blankOf}
+use Rattle.screen_sheet.specs.Within.{allGood}
+use Rattle.screen_sheet.proofs.Stays.{all-true, true-all, blanks-in}
+use Rattle.screen_pen.specs.Pens.{inRange as penInRange, InPen}
+use Rattle.screen_pen.proofs.Stays.{pen-true, true-pen, fresh-in}
+use Rattle.screen_page.specs.declared.Screen.{Screen}
+use Rattle.screen_page.specs.Pages.{freshScreen}
+use Rattle.screen_page.specs.Ranges.{inRange, broken, InScreen}
 
 pub screen-true : {s : Screen} → InScreen s → inRange s ≡ true
 unfolding inRange

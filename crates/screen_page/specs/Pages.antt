@@ -1,12 +1,12 @@
 -- A screen: fresh, its cells by their places (01, "Screen cells"). Assumes nothing.
 use lib.ListN.{getD, replicate}
-use Rattle.cursor.specs.declared.Place.{Place}
-use Rattle.cursor.specs.Places.{indexOf}
-use Rattle.cells.specs.declared.Cell.{Cell}
-use Rattle.cells.specs.Characters.{blankOf}
-use Rattle.pen.specs.declared.Pen.{Pen}
-use Rattle.pen.specs.Pens.{freshPen}
-use Rattle.page.specs.declared.Screen.{Screen}
+use Rattle.screen_cursor.specs.declared.Place.{Place}
+use Rattle.screen_cursor.specs.Places.{indexOf}
+use Rattle.screen_cells.specs.declared.Cell.{Cell}
+use Rattle.screen_cells.specs.Characters.{blankOf}
+use Rattle.screen_pen.specs.declared.Pen.{Pen}
+use Rattle.screen_pen.specs.Pens.{freshPen}
+use Rattle.screen_page.specs.declared.Screen.{Screen}
 
 -- "a fresh screen is 1,000 equal cells"
 unfoldable pub freshScreen : Screen

@@ -2,9 +2,9 @@
 use mathlib.Core.Path.{_≡_}
 use mathlib.Core.Bool.{Bool, _&&_, not}
 use lib.ListN.{length}
-use Rattle.sheet.specs.Within.{allGood, AllIn}
-use Rattle.pen.specs.Pens.{inRange as penInRange, InPen}
-use Rattle.page.specs.declared.Screen.{Screen}
+use Rattle.screen_sheet.specs.Within.{allGood, AllIn}
+use Rattle.screen_pen.specs.Pens.{inRange as penInRange, InPen}
+use Rattle.screen_page.specs.declared.Screen.{Screen}
 
 -- the test
 unfoldable pub inRange : Screen → Bool

@@ -2,14 +2,14 @@
 use mathlib.Core.Bool.{cond}
 use mathlib.Core.List.{List, [], _∷_}
 use Prim.Native.Nat.{ℕ}
-use Rattle.cursor.specs.Places.{at, onScreen}
-use Rattle.page.specs.declared.Screen.{Screen}
-use Rattle.page.specs.declared.Read.{Read}
-use Rattle.page.specs.declared.Read.the-variants.{Broken as Unread, Off, There}
-use Rattle.page.specs.declared.Cursor.{Cursor}
-use Rattle.page.specs.declared.Cursor.the-variants.{Broken as Lost, Hidden, Shown}
-use Rattle.page.specs.Pages.{cellAt}
-use Rattle.page.specs.Ranges.{broken}
+use Rattle.screen_cursor.specs.Places.{at, onScreen}
+use Rattle.screen_page.specs.declared.Screen.{Screen}
+use Rattle.screen_page.specs.declared.Read.{Read}
+use Rattle.screen_page.specs.declared.Read.the-variants.{Broken as Unread, Off, There}
+use Rattle.screen_page.specs.declared.Cursor.{Cursor}
+use Rattle.screen_page.specs.declared.Cursor.the-variants.{Broken as Lost, Hidden, Shown}
+use Rattle.screen_page.specs.Pages.{cellAt}
+use Rattle.screen_page.specs.Ranges.{broken}
 
 -- a place off the screen has an answer of its own
 unfoldable pub read : Screen → ℕ → ℕ → Read

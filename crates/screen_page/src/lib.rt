@@ -4,12 +4,12 @@
 // specs/Pages says what a fresh screen is, specs/Ranges which are in range, specs/Reading what reading gives; proofs/
 // holds their laws.
 ghost use mathlib.Core.Path.{_≡_};
-ghost use Rattle.page.specs.Pages.{freshScreen};
-ghost use Rattle.page.specs.Ranges.{broken};
-ghost use Rattle.page.specs.Reading.{read, pointed};
-use cells::Cell;
-use cursor::Place;
-use pen::Pen;
+ghost use Rattle.screen_page.specs.Pages.{freshScreen};
+ghost use Rattle.screen_page.specs.Ranges.{broken};
+ghost use Rattle.screen_page.specs.Reading.{read, pointed};
+use screen_cells::Cell;
+use screen_cursor::Place;
+use screen_pen::Pen;
 
 pub struct Screen {
     // Row 0 first, its columns 1 to 40, then row 1.
@@ -37,7 +37,7 @@ impl Screen {
     pub fn fresh() -> Screen
         ensures { λ r. ⌜ r ≡ freshScreen ⌝ }
     {
-        let blank = cells::blank();
+        let blank = screen_cells::blank();
         let cells = [blank; 1000];
         let pen = Pen::fresh();
         Screen { cells, pen }
@@ -47,9 +47,9 @@ impl Screen {
     pub fn is_broken(self) -> bool
         ensures { λ r. ⌜ r ≡ broken self ⌝ }
     {
-        if ranges::in_range(self.pen) {
+        if screen_ranges::in_range(self.pen) {
             let cells = self.cells;
-            if sheet::in_range(cells) {
+            if screen_sheet::in_range(cells) {
                 return false;
             }
         }

@@ -4,23 +4,23 @@ use mathlib.Core.Bool.{true}
 use mathlib.Core.List.{[], _∷_}
 use Prim.Native.Nat.{ℕ}
 use Rattle.laws.proofs.Computed.{each}
-use Rattle.cursor.specs.declared.Place.{Place}
-use Rattle.cursor.specs.Places.{On, onScreen}
-use Rattle.cursor.proofs.Tested.{on-true, true-on, home-on}
-use Rattle.motion.proofs.Stays.{right-on}
-use Rattle.sequences.specs.Hearing.{inRange as goodSequence}
-use Rattle.cells.specs.Within.{Character, InCell}
-use Rattle.cells.proofs.Tested.{character-true, true-character}
-use Rattle.attributes.specs.declared.Attributes.{Attributes}
-use Rattle.attributes.specs.Within.{good, InForce}
-use Rattle.attributes.proofs.Stays.{force-true, true-force, start-in}
-use Rattle.writing.proofs.Stays.{write-in, cell-in}
-use Rattle.pen.specs.declared.Last.{Last}
-use Rattle.pen.specs.declared.Last.the-variants.{Never, Character as Was}
-use Rattle.pen.specs.declared.Pen.{Pen}
-use Rattle.pen.specs.Pens.{freshPen}
-use Rattle.pen.specs.Pens.{goodLast, goodSpot, inRange, InLast, InPen}
-use Rattle.pen.specs.Strokes.{after, stroke}
+use Rattle.screen_cursor.specs.declared.Place.{Place}
+use Rattle.screen_cursor.specs.Places.{On, onScreen}
+use Rattle.screen_cursor.proofs.Tested.{on-true, true-on, home-on}
+use Rattle.screen_motion.proofs.Stays.{right-on}
+use Rattle.screen_sequences.specs.Hearing.{inRange as goodSequence}
+use Rattle.screen_cells.specs.Within.{Character, InCell}
+use Rattle.screen_cells.proofs.Tested.{character-true, true-character}
+use Rattle.screen_attributes.specs.declared.Attributes.{Attributes}
+use Rattle.screen_attributes.specs.Within.{good, InForce}
+use Rattle.screen_attributes.proofs.Stays.{force-true, true-force, start-in}
+use Rattle.screen_writing.proofs.Stays.{write-in, cell-in}
+use Rattle.screen_pen.specs.declared.Last.{Last}
+use Rattle.screen_pen.specs.declared.Last.the-variants.{Never, Character as Was}
+use Rattle.screen_pen.specs.declared.Pen.{Pen}
+use Rattle.screen_pen.specs.Pens.{freshPen}
+use Rattle.screen_pen.specs.Pens.{goodLast, goodSpot, inRange, InLast, InPen}
+use Rattle.screen_pen.specs.Strokes.{after, stroke}
 
 -- ---- the test is the ranges
 

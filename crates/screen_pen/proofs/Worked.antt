@@ -5,21 +5,21 @@ use mathlib.Core.Bool.{Bool, true, false}
 use mathlib.Core.List.{List, [], _∷_, map}
 use Prim.Native.Nat.{ℕ}
 use lib.ListN.{replicate}
-use Rattle.cursor.specs.declared.Place.{Place}
-use Rattle.cursor.specs.Places.{at}
-use Rattle.sequences.specs.declared.Sequence.{Sequence}
-use Rattle.sequences.specs.declared.Sequence.the-variants.{Free, Repeat, Row}
-use Rattle.cells.specs.declared.Cell.{Cell}
-use Rattle.cells.specs.Within.{goodCharacter}
-use Rattle.attributes.specs.declared.Waiting.the-variants.{Nothing, Ground}
-use Rattle.attributes.specs.declared.Attributes.{Attributes}
-use Rattle.attributes.specs.Attributing.{attributes}
-use Rattle.pen.specs.declared.Last.{Last}
-use Rattle.pen.specs.declared.Last.the-variants.{Never, Character}
-use Rattle.pen.specs.declared.Pen.{Pen}
-use Rattle.pen.specs.declared.Stroke.{Stroke}
-use Rattle.pen.specs.Pens.{freshPen, goodSpot, inRange}
-use Rattle.pen.specs.Strokes.{stroke}
+use Rattle.screen_cursor.specs.declared.Place.{Place}
+use Rattle.screen_cursor.specs.Places.{at}
+use Rattle.screen_sequences.specs.declared.Sequence.{Sequence}
+use Rattle.screen_sequences.specs.declared.Sequence.the-variants.{Free, Repeat, Row}
+use Rattle.screen_cells.specs.declared.Cell.{Cell}
+use Rattle.screen_cells.specs.Within.{goodCharacter}
+use Rattle.screen_attributes.specs.declared.Waiting.the-variants.{Nothing, Ground}
+use Rattle.screen_attributes.specs.declared.Attributes.{Attributes}
+use Rattle.screen_attributes.specs.Attributing.{attributes}
+use Rattle.screen_pen.specs.declared.Last.{Last}
+use Rattle.screen_pen.specs.declared.Last.the-variants.{Never, Character}
+use Rattle.screen_pen.specs.declared.Pen.{Pen}
+use Rattle.screen_pen.specs.declared.Stroke.{Stroke}
+use Rattle.screen_pen.specs.Pens.{freshPen, goodSpot, inRange}
+use Rattle.screen_pen.specs.Strokes.{stroke}
 
 -- place and attributes, what is kept of both, the last character, what is unfinished, whether the cursor is shown
 abbrev pub pen : Place → Attributes → Place → Attributes → Last → Sequence → Bool → Pen

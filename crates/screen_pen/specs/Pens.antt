@@ -1,17 +1,17 @@
 -- What a pen is: its start, its ranges (01, "Screen cells"). Assumes nothing.
 use mathlib.Core.Path.{_≡_}
 use mathlib.Core.Bool.{Bool, true, false, _&&_}
-use Rattle.cursor.specs.declared.Place.{Place}
-use Rattle.cursor.specs.Places.{home, onScreen, On}
-use Rattle.sequences.specs.declared.Sequence.the-variants.{Free}
-use Rattle.sequences.specs.Hearing.{inRange as goodSequence}
-use Rattle.cells.specs.Within.{goodCharacter, Character}
-use Rattle.attributes.specs.declared.Attributes.{Attributes}
-use Rattle.attributes.specs.Attributing.{startOf}
-use Rattle.attributes.specs.Within.{good, InForce}
-use Rattle.pen.specs.declared.Last.{Last}
-use Rattle.pen.specs.declared.Last.the-variants.{Never, Character as Was}
-use Rattle.pen.specs.declared.Pen.{Pen}
+use Rattle.screen_cursor.specs.declared.Place.{Place}
+use Rattle.screen_cursor.specs.Places.{home, onScreen, On}
+use Rattle.screen_sequences.specs.declared.Sequence.the-variants.{Free}
+use Rattle.screen_sequences.specs.Hearing.{inRange as goodSequence}
+use Rattle.screen_cells.specs.Within.{goodCharacter, Character}
+use Rattle.screen_attributes.specs.declared.Attributes.{Attributes}
+use Rattle.screen_attributes.specs.Attributing.{startOf}
+use Rattle.screen_attributes.specs.Within.{good, InForce}
+use Rattle.screen_pen.specs.declared.Last.{Last}
+use Rattle.screen_pen.specs.declared.Last.the-variants.{Never, Character as Was}
+use Rattle.screen_pen.specs.declared.Pen.{Pen}
 
 -- "Current attributes at the start ..", "The cursor starts at row 1, column 1, hidden"; "if there was none, row 1,
 -- column 1 and start attributes"

@@ -1,10 +1,10 @@
 -- What a character written does (01, "Screen cells"). Assumes nothing.
 use Prim.Native.Nat.{ℕ, zero, suc}
-use Rattle.motion.specs.Moves.{rightOf}
-use Rattle.writing.specs.Writing.{written}
-use Rattle.pen.specs.declared.Last.the-variants.{Character}
-use Rattle.pen.specs.declared.Pen.{Pen}
-use Rattle.pen.specs.declared.Stroke.{Stroke}
+use Rattle.screen_motion.specs.Moves.{rightOf}
+use Rattle.screen_writing.specs.Writing.{written}
+use Rattle.screen_pen.specs.declared.Last.the-variants.{Character}
+use Rattle.screen_pen.specs.declared.Pen.{Pen}
+use Rattle.screen_pen.specs.declared.Stroke.{Stroke}
 
 -- the pen after a character of set s and code d
 abbrev pub after : Pen → ℕ → ℕ → Pen

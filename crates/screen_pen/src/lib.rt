@@ -2,15 +2,15 @@
 // kept for the return from row 0, the last character, the unfinished sequence, and whether the cursor is shown.
 //
 // `write` is one character written: its cell, and the pen after it. specs/Pens says what a pen is and which are in
-// range, specs/Strokes what a character does. The test of the ranges is in the crate `ranges`, and what a value does to
-// a pen in `planning`.
+// range, specs/Strokes what a character does. The test of the ranges is in the crate `screen_ranges`, and what a value
+// does to a pen in `screen_planning`.
 ghost use mathlib.Core.Path.{_≡_};
-ghost use Rattle.pen.specs.Pens.{freshPen};
-ghost use Rattle.pen.specs.Strokes.{stroke as strokeOf};
-use attributes::Attributes;
-use cells::Cell;
-use cursor::Place;
-use sequences::Sequence;
+ghost use Rattle.screen_pen.specs.Pens.{freshPen};
+ghost use Rattle.screen_pen.specs.Strokes.{stroke as strokeOf};
+use screen_attributes::Attributes;
+use screen_cells::Cell;
+use screen_cursor::Place;
+use screen_sequences::Sequence;
 
 // What was held before US entered row 0; at the start, the start's.
 pub struct Kept {
@@ -45,7 +45,7 @@ impl Pen {
         ensures { λ r. ⌜ r ≡ freshPen ⌝ }
     {
         let place = Place { row: 1, column: 1 };
-        let start = attributes::start();
+        let start = screen_attributes::start();
         let kept = Kept {
             place,
             attributes: start,
@@ -64,10 +64,10 @@ impl Pen {
     pub fn write(self, set: u8, code: u8) -> Stroke
         ensures { λ r. ⌜ r ≡ strokeOf self set code ⌝ }
     {
-        let written = writing::write(self.attributes, set, code);
+        let written = screen_writing::write(self.attributes, set, code);
         let attributes = written.attributes;
         let cell = written.cell;
-        let place = motion::right(self.place);
+        let place = screen_motion::right(self.place);
         let kept = self.kept;
         let sequence = self.sequence;
         let pen = Pen {

@@ -7,21 +7,21 @@ use native.Mathlib.Omega.{arith}
 use lib.Dec.{leb}
 use borrow.Author.Tests.{le-leb, leb-true}
 use Rattle.laws.proofs.Computed.{each}
-use Rattle.cursor.specs.Places.{at}
-use Rattle.addresses.specs.declared.Address.{Address}
-use Rattle.addresses.specs.declared.Address.the-variants.{Nowhere, There}
-use Rattle.addresses.specs.Addressing.{good, addressed}
-use Rattle.sequences.specs.declared.Sequence.{Sequence}
-use Rattle.sequences.specs.declared.Sequence.the-variants.{Free, Row}
-use Rattle.sequences.specs.declared.Order.the-variants.{Go}
-use Rattle.sequences.specs.Hearing.{does, heard}
-use Rattle.sequences.proofs.Codes.{heard-code}
-use Rattle.pen.specs.declared.Pen.{Pen}
-use Rattle.planning.specs.Naming.{Names}
-use Rattle.planning.specs.Changing.{withSequence}
-use Rattle.planning.specs.Obeying.{keeps, entering, startAt, gone, obeyed}
-use Rattle.planning.specs.Planning.{planned}
-use Rattle.planning.proofs.Plans.{plan-heard}
+use Rattle.screen_cursor.specs.Places.{at}
+use Rattle.screen_addresses.specs.declared.Address.{Address}
+use Rattle.screen_addresses.specs.declared.Address.the-variants.{Nowhere, There}
+use Rattle.screen_addresses.specs.Addressing.{good, addressed}
+use Rattle.screen_sequences.specs.declared.Sequence.{Sequence}
+use Rattle.screen_sequences.specs.declared.Sequence.the-variants.{Free, Row}
+use Rattle.screen_sequences.specs.declared.Order.the-variants.{Go}
+use Rattle.screen_sequences.specs.Hearing.{does, heard}
+use Rattle.screen_sequences.proofs.Codes.{heard-code}
+use Rattle.screen_pen.specs.declared.Pen.{Pen}
+use Rattle.screen_planning.specs.Naming.{Names}
+use Rattle.screen_planning.specs.Changing.{withSequence}
+use Rattle.screen_planning.specs.Obeying.{keeps, entering, startAt, gone, obeyed}
+use Rattle.screen_planning.specs.Planning.{planned}
+use Rattle.screen_planning.proofs.Plans.{plan-heard}
 
 leads : (r c : ℕ) → Names r c → addressed r c ≡ There (at (r - 64) (c - 64))
 leads r c n =

@@ -4,34 +4,34 @@ use mathlib.Core.Bool.{Bool, true, false, cond}
 use Prim.Native.Nat.{ℕ, zero, suc, _-_, _%_}
 use lib.Dec.{eqb}
 use Rattle.laws.proofs.Computed.{chosen}
-use Rattle.cursor.specs.declared.Place.{Place}
-use Rattle.cursor.specs.Places.{at}
-use Rattle.motion.specs.Moves.{downOf}
-use Rattle.addresses.specs.declared.Address.the-variants.{Nowhere, There}
-use Rattle.addresses.specs.Addressing.{good}
-use Rattle.sequences.specs.declared.Sequence.{Sequence}
-use Rattle.sequences.specs.declared.Order.{Order}
-use Rattle.sequences.specs.declared.Order.the-variants.{Skip, Left, Right, Up, Down, First, Clear, Home}
-use Rattle.sequences.specs.declared.Order.the-variants.{ShiftOut, ShiftIn, Show, Hide, Pair, Go, Write}
-use Rattle.sequences.specs.declared.Order.the-variants.{Second, Again}
-use Rattle.sequences.specs.Hearing.{heard}
-use Rattle.attributes.specs.declared.Waiting.{Waiting}
-use Rattle.attributes.specs.declared.Waiting.the-variants.{Nothing, Ground}
-use Rattle.attributes.specs.declared.Attributes.{Attributes}
-use Rattle.attributes.specs.Attributing.{grounds}
-use Rattle.pairs.specs.Pairing.{paired, namesGround}
-use Rattle.pairs.proofs.Grounds.{pair-ground, pair-others}
-use Rattle.writing.specs.Writing.{takes, afterWaiting, afterWriting}
-use Rattle.writing.proofs.Takers.{written-twice}
-use Rattle.pen.specs.declared.Last.{Last}
-use Rattle.pen.specs.declared.Last.the-variants.{Never, Character}
-use Rattle.pen.specs.declared.Pen.{Pen}
-use Rattle.pen.specs.Strokes.{afterTimes}
-use Rattle.planning.specs.Changing.{withPlace, withAttributes, withSequence}
-use Rattle.planning.specs.Obeying.{again, gone, obeyed}
-use Rattle.planning.specs.Planning.{finished, afterOrder, unfinished, ordered, penAfter}
-use Rattle.planning.specs.Grounds.{Fate, taken, awaited, dropped, broughtBack, leftAlone}
-use Rattle.planning.specs.Grounds.{takenWhere, againFate, fate, takenFrom, outcome}
+use Rattle.screen_cursor.specs.declared.Place.{Place}
+use Rattle.screen_cursor.specs.Places.{at}
+use Rattle.screen_motion.specs.Moves.{downOf}
+use Rattle.screen_addresses.specs.declared.Address.the-variants.{Nowhere, There}
+use Rattle.screen_addresses.specs.Addressing.{good}
+use Rattle.screen_sequences.specs.declared.Sequence.{Sequence}
+use Rattle.screen_sequences.specs.declared.Order.{Order}
+use Rattle.screen_sequences.specs.declared.Order.the-variants.{Skip, Left, Right, Up, Down, First, Clear, Home}
+use Rattle.screen_sequences.specs.declared.Order.the-variants.{ShiftOut, ShiftIn, Show, Hide, Pair, Go, Write}
+use Rattle.screen_sequences.specs.declared.Order.the-variants.{Second, Again}
+use Rattle.screen_sequences.specs.Hearing.{heard}
+use Rattle.screen_attributes.specs.declared.Waiting.{Waiting}
+use Rattle.screen_attributes.specs.declared.Waiting.the-variants.{Nothing, Ground}
+use Rattle.screen_attributes.specs.declared.Attributes.{Attributes}
+use Rattle.screen_attributes.specs.Attributing.{grounds}
+use Rattle.screen_escapes.specs.Pairing.{paired, namesGround}
+use Rattle.screen_escapes.proofs.Grounds.{pair-ground, pair-others}
+use Rattle.screen_writing.specs.Writing.{takes, afterWaiting, afterWriting}
+use Rattle.screen_writing.proofs.Takers.{written-twice}
+use Rattle.screen_pen.specs.declared.Last.{Last}
+use Rattle.screen_pen.specs.declared.Last.the-variants.{Never, Character}
+use Rattle.screen_pen.specs.declared.Pen.{Pen}
+use Rattle.screen_pen.specs.Strokes.{afterTimes}
+use Rattle.screen_planning.specs.Changing.{withPlace, withAttributes, withSequence}
+use Rattle.screen_planning.specs.Obeying.{again, gone, obeyed}
+use Rattle.screen_planning.specs.Planning.{finished, afterOrder, unfinished, ordered, penAfter}
+use Rattle.screen_planning.specs.Grounds.{Fate, taken, awaited, dropped, broughtBack, leftAlone}
+use Rattle.screen_planning.specs.Grounds.{takenWhere, againFate, fate, takenFrom, outcome}
 
 module _ (p : Pen) where
   -- ---- a character written

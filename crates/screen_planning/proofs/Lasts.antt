@@ -4,26 +4,26 @@ use mathlib.Core.Bool.{Bool, true, false, cond}
 use Prim.Native.Nat.{ℕ, zero, suc, _-_}
 use lib.Dec.{eqb}
 use Rattle.laws.proofs.Computed.{holds}
-use Rattle.cursor.specs.declared.Place.{Place}
-use Rattle.cursor.specs.Places.{at}
-use Rattle.motion.specs.Moves.{downOf}
-use Rattle.addresses.specs.declared.Address.{Address}
-use Rattle.addresses.specs.declared.Address.the-variants.{Nowhere, There}
-use Rattle.addresses.specs.Addressing.{addressed}
-use Rattle.sequences.specs.declared.Sequence.{Sequence}
-use Rattle.sequences.specs.declared.Order.{Order}
-use Rattle.sequences.specs.declared.Order.the-variants.{Skip, Left, Right, Up, Down, First, Clear, Home}
-use Rattle.sequences.specs.declared.Order.the-variants.{ShiftOut, ShiftIn, Show, Hide, Pair, Go, Write}
-use Rattle.sequences.specs.declared.Order.the-variants.{Second, Again}
-use Rattle.sequences.specs.Hearing.{heard}
-use Rattle.pen.specs.declared.Last.{Last}
-use Rattle.pen.specs.declared.Last.the-variants.{Never, Character}
-use Rattle.pen.specs.declared.Pen.{Pen}
-use Rattle.pen.specs.Strokes.{afterTimes}
-use Rattle.planning.specs.Changing.{withPlace, withAttributes, withSequence}
-use Rattle.planning.specs.Obeying.{again, entering, keeping, gone, obeyed}
-use Rattle.planning.specs.Planning.{finished, afterOrder, unfinished, ordered, penAfter}
-use Rattle.planning.specs.Lasts.{lastAfter}
+use Rattle.screen_cursor.specs.declared.Place.{Place}
+use Rattle.screen_cursor.specs.Places.{at}
+use Rattle.screen_motion.specs.Moves.{downOf}
+use Rattle.screen_addresses.specs.declared.Address.{Address}
+use Rattle.screen_addresses.specs.declared.Address.the-variants.{Nowhere, There}
+use Rattle.screen_addresses.specs.Addressing.{addressed}
+use Rattle.screen_sequences.specs.declared.Sequence.{Sequence}
+use Rattle.screen_sequences.specs.declared.Order.{Order}
+use Rattle.screen_sequences.specs.declared.Order.the-variants.{Skip, Left, Right, Up, Down, First, Clear, Home}
+use Rattle.screen_sequences.specs.declared.Order.the-variants.{ShiftOut, ShiftIn, Show, Hide, Pair, Go, Write}
+use Rattle.screen_sequences.specs.declared.Order.the-variants.{Second, Again}
+use Rattle.screen_sequences.specs.Hearing.{heard}
+use Rattle.screen_pen.specs.declared.Last.{Last}
+use Rattle.screen_pen.specs.declared.Last.the-variants.{Never, Character}
+use Rattle.screen_pen.specs.declared.Pen.{Pen}
+use Rattle.screen_pen.specs.Strokes.{afterTimes}
+use Rattle.screen_planning.specs.Changing.{withPlace, withAttributes, withSequence}
+use Rattle.screen_planning.specs.Obeying.{again, entering, keeping, gone, obeyed}
+use Rattle.screen_planning.specs.Planning.{finished, afterOrder, unfinished, ordered, penAfter}
+use Rattle.screen_planning.specs.Lasts.{lastAfter}
 
 -- REP writes the last character, which stays the last
 again-last : (p : Pen) (l : Last) (n : ℕ) → p .last ≡ l

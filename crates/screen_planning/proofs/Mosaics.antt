@@ -5,25 +5,25 @@ use Prim.Native.Nat.{ℕ, zero, suc}
 use native.Mathlib.Omega.{arith}
 use lib.Dec.{eqb}
 use Rattle.laws.proofs.Computed.{chosen}
-use Rattle.addresses.specs.declared.Address.{Address}
-use Rattle.addresses.specs.declared.Address.the-variants.{Nowhere, There}
-use Rattle.addresses.specs.Addressing.{addressed}
-use Rattle.sequences.specs.declared.Order.{Order}
-use Rattle.sequences.specs.declared.Order.the-variants.{Skip, Left, Right, Up, Down, First, Clear, Home}
-use Rattle.sequences.specs.declared.Order.the-variants.{ShiftOut, ShiftIn, Show, Hide, Pair, Go, Write}
-use Rattle.sequences.specs.declared.Order.the-variants.{Second, Again}
-use Rattle.attributes.specs.Attributing.{Upright, shiftedIn}
-use Rattle.attributes.specs.declared.Attributes.{Attributes}
-use Rattle.attributes.proofs.Mosaics.{start-upright, out-upright}
-use Rattle.pairs.proofs.Mosaics.{pair-upright}
-use Rattle.writing.proofs.Mosaics.{write-upright}
-use Rattle.pen.specs.declared.Last.{Last}
-use Rattle.pen.specs.declared.Last.the-variants.{Never, Character}
-use Rattle.pen.specs.declared.Pen.{Pen}
-use Rattle.pen.specs.Pens.{freshPen}
-use Rattle.pen.specs.Strokes.{afterTimes}
-use Rattle.planning.specs.Obeying.{again, lowered, keeping, entering, gone, obeyed}
-use Rattle.planning.specs.Planning.{finished, afterOrder, unfinished, ordered, penAfter}
+use Rattle.screen_addresses.specs.declared.Address.{Address}
+use Rattle.screen_addresses.specs.declared.Address.the-variants.{Nowhere, There}
+use Rattle.screen_addresses.specs.Addressing.{addressed}
+use Rattle.screen_sequences.specs.declared.Order.{Order}
+use Rattle.screen_sequences.specs.declared.Order.the-variants.{Skip, Left, Right, Up, Down, First, Clear, Home}
+use Rattle.screen_sequences.specs.declared.Order.the-variants.{ShiftOut, ShiftIn, Show, Hide, Pair, Go, Write}
+use Rattle.screen_sequences.specs.declared.Order.the-variants.{Second, Again}
+use Rattle.screen_attributes.specs.Attributing.{Upright, shiftedIn}
+use Rattle.screen_attributes.specs.declared.Attributes.{Attributes}
+use Rattle.screen_attributes.proofs.Mosaics.{start-upright, out-upright}
+use Rattle.screen_escapes.proofs.Mosaics.{pair-upright}
+use Rattle.screen_writing.proofs.Mosaics.{write-upright}
+use Rattle.screen_pen.specs.declared.Last.{Last}
+use Rattle.screen_pen.specs.declared.Last.the-variants.{Never, Character}
+use Rattle.screen_pen.specs.declared.Pen.{Pen}
+use Rattle.screen_pen.specs.Pens.{freshPen}
+use Rattle.screen_pen.specs.Strokes.{afterTimes}
+use Rattle.screen_planning.specs.Obeying.{again, lowered, keeping, entering, gone, obeyed}
+use Rattle.screen_planning.specs.Planning.{finished, afterOrder, unfinished, ordered, penAfter}
 
 abbrev pub Uprights : Pen → Type 0
 Uprights p = Upright (p .attributes) × Upright (p .kept .attributes)

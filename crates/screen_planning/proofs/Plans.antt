@@ -3,18 +3,18 @@ use mathlib.Core.Path.{_≡_, sym, ap, _∙_}
 use mathlib.Core.Bool.{true}
 use Prim.Native.Nat.{ℕ, _≤_, _<_}
 use borrow.Author.Tests.{le-ltb}
-use Rattle.sequences.specs.declared.Sequence.{Sequence}
-use Rattle.sequences.specs.declared.Sequence.the-variants.{Free}
-use Rattle.sequences.specs.declared.Order.the-variants.{Write}
-use Rattle.sequences.specs.declared.Heard.{Heard}
-use Rattle.sequences.specs.Hearing.{isFree, does, heard}
-use Rattle.sequences.proofs.Codes.{free, heard-text}
-use Rattle.pen.specs.declared.Pen.{Pen}
-use Rattle.pen.specs.Pens.{inRange}
-use Rattle.planning.specs.declared.Planned.{Planned}
-use Rattle.planning.specs.Changing.{withSequence}
-use Rattle.planning.specs.Obeying.{puts, obeyed}
-use Rattle.planning.specs.Planning.{planned, plan}
+use Rattle.screen_sequences.specs.declared.Sequence.{Sequence}
+use Rattle.screen_sequences.specs.declared.Sequence.the-variants.{Free}
+use Rattle.screen_sequences.specs.declared.Order.the-variants.{Write}
+use Rattle.screen_sequences.specs.declared.Heard.{Heard}
+use Rattle.screen_sequences.specs.Hearing.{isFree, does, heard}
+use Rattle.screen_sequences.proofs.Codes.{free, heard-text}
+use Rattle.screen_pen.specs.declared.Pen.{Pen}
+use Rattle.screen_pen.specs.Pens.{inRange}
+use Rattle.screen_planning.specs.declared.Planned.{Planned}
+use Rattle.screen_planning.specs.Changing.{withSequence}
+use Rattle.screen_planning.specs.Obeying.{puts, obeyed}
+use Rattle.screen_planning.specs.Planning.{planned, plan}
 
 -- a value of 0 to 127 for a pen in range is planned
 pub plan-tested : (p : Pen) (b : ℕ) → inRange p ≡ true → b ≤ 127 → plan p b ≡ planned p b

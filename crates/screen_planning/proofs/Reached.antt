@@ -6,25 +6,25 @@ use Prim.Native.Nat.{ℕ, _-_, _/_, _≤_}
 use native.Mathlib.Nat.{le-refl}
 use lib.Dec.{ltb, leb, eqb}
 use Rattle.laws.proofs.Computed.{chosen}
-use Rattle.cursor.specs.declared.Place.{Place}
-use Rattle.sequences.specs.declared.Sequence.{Sequence}
-use Rattle.sequences.specs.declared.Sequence.the-variants.{Free, Escape, Long, Control, Separator, Repeat}
-use Rattle.sequences.specs.declared.Sequence.the-variants.{Single, Address, Row}
-use Rattle.sequences.specs.declared.Order.{Order}
-use Rattle.sequences.specs.declared.Order.the-variants.{Skip}
-use Rattle.sequences.specs.declared.Heard.{Heard}
-use Rattle.sequences.specs.Hearing.{isSeparator, does, opens, begins, control, followed}
-use Rattle.sequences.proofs.Stays.{none, also, among-in}
-use Rattle.pen.specs.declared.Last.{Last}
-use Rattle.pen.specs.declared.Last.the-variants.{Never, Character}
-use Rattle.pen.specs.declared.Pen.{Pen}
-use Rattle.planning.specs.declared.Asked.{Asked}
-use Rattle.planning.specs.declared.Asked.the-variants.{Nothing, Blank, Put}
-use Rattle.planning.specs.Changing.{withSequence}
-use Rattle.planning.specs.Obeying.{again, obeyed}
-use Rattle.planning.specs.Planning.{planned}
-use Rattle.planning.specs.Reach.{reach, writes, clears}
-use Rattle.planning.proofs.Plans.{plannedBy}
+use Rattle.screen_cursor.specs.declared.Place.{Place}
+use Rattle.screen_sequences.specs.declared.Sequence.{Sequence}
+use Rattle.screen_sequences.specs.declared.Sequence.the-variants.{Free, Escape, Long, Control, Separator, Repeat}
+use Rattle.screen_sequences.specs.declared.Sequence.the-variants.{Single, Address, Row}
+use Rattle.screen_sequences.specs.declared.Order.{Order}
+use Rattle.screen_sequences.specs.declared.Order.the-variants.{Skip}
+use Rattle.screen_sequences.specs.declared.Heard.{Heard}
+use Rattle.screen_sequences.specs.Hearing.{isSeparator, does, opens, begins, control, followed}
+use Rattle.screen_sequences.proofs.Stays.{none, also, among-in}
+use Rattle.screen_pen.specs.declared.Last.{Last}
+use Rattle.screen_pen.specs.declared.Last.the-variants.{Never, Character}
+use Rattle.screen_pen.specs.declared.Pen.{Pen}
+use Rattle.screen_planning.specs.declared.Asked.{Asked}
+use Rattle.screen_planning.specs.declared.Asked.the-variants.{Nothing, Blank, Put}
+use Rattle.screen_planning.specs.Changing.{withSequence}
+use Rattle.screen_planning.specs.Obeying.{again, obeyed}
+use Rattle.screen_planning.specs.Planning.{planned}
+use Rattle.screen_planning.specs.Reach.{reach, writes, clears}
+use Rattle.screen_planning.proofs.Plans.{plannedBy}
 
 -- asked with the pen at place y: blanking where t holds, and at most n characters from place x on
 abbrev pub Asks : Bool → ℕ → Place → Place → Asked → Type 0

@@ -5,26 +5,26 @@ use Prim.Native.Nat.{ℕ, zero, suc, _-_, _≤_}
 use native.Mathlib.Omega.{arith}
 use lib.Dec.{eqb, lit≤}
 use borrow.Author.Tests.{eq-eqb, ne-eqb}
-use Rattle.cursor.specs.declared.Place.{Place}
-use Rattle.cursor.specs.Places.{at}
-use Rattle.motion.specs.Moves.{downOf}
-use Rattle.addresses.specs.declared.Address.the-variants.{Nowhere, There}
-use Rattle.addresses.specs.Addressing.{good}
-use Rattle.sequences.specs.declared.Sequence.the-variants.{Free, Separator}
-use Rattle.sequences.specs.declared.Order.{Order}
-use Rattle.sequences.specs.declared.Order.the-variants.{Skip, Left, Right, Up, Down, First, Clear, Home}
-use Rattle.sequences.specs.declared.Order.the-variants.{ShiftOut, ShiftIn, Show, Hide, Pair, Go, Write}
-use Rattle.sequences.specs.declared.Order.the-variants.{Second, Again}
-use Rattle.sequences.specs.Hearing.{control}
-use Rattle.sequences.proofs.Codes.{heard-control}
-use Rattle.pen.specs.declared.Last.{Last}
-use Rattle.pen.specs.declared.Last.the-variants.{Never, Character}
-use Rattle.pen.specs.declared.Pen.{Pen}
-use Rattle.pen.specs.Strokes.{afterTimes}
-use Rattle.planning.specs.Changing.{withPlace, withAttributes, withSequence}
-use Rattle.planning.specs.Obeying.{keeps, again, keeping, entering, startAt, gone, obeyed}
-use Rattle.planning.specs.Planning.{unfinished, ordered, planned, finished, afterOrder, penAfter}
-use Rattle.planning.proofs.Plans.{plan-heard}
+use Rattle.screen_cursor.specs.declared.Place.{Place}
+use Rattle.screen_cursor.specs.Places.{at}
+use Rattle.screen_motion.specs.Moves.{downOf}
+use Rattle.screen_addresses.specs.declared.Address.the-variants.{Nowhere, There}
+use Rattle.screen_addresses.specs.Addressing.{good}
+use Rattle.screen_sequences.specs.declared.Sequence.the-variants.{Free, Separator}
+use Rattle.screen_sequences.specs.declared.Order.{Order}
+use Rattle.screen_sequences.specs.declared.Order.the-variants.{Skip, Left, Right, Up, Down, First, Clear, Home}
+use Rattle.screen_sequences.specs.declared.Order.the-variants.{ShiftOut, ShiftIn, Show, Hide, Pair, Go, Write}
+use Rattle.screen_sequences.specs.declared.Order.the-variants.{Second, Again}
+use Rattle.screen_sequences.specs.Hearing.{control}
+use Rattle.screen_sequences.proofs.Codes.{heard-control}
+use Rattle.screen_pen.specs.declared.Last.{Last}
+use Rattle.screen_pen.specs.declared.Last.the-variants.{Never, Character}
+use Rattle.screen_pen.specs.declared.Pen.{Pen}
+use Rattle.screen_pen.specs.Strokes.{afterTimes}
+use Rattle.screen_planning.specs.Changing.{withPlace, withAttributes, withSequence}
+use Rattle.screen_planning.specs.Obeying.{keeps, again, keeping, entering, startAt, gone, obeyed}
+use Rattle.screen_planning.specs.Planning.{unfinished, ordered, planned, finished, afterOrder, penAfter}
+use Rattle.screen_planning.proofs.Plans.{plan-heard}
 
 -- ---- what is kept
 

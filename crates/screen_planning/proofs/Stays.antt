@@ -5,36 +5,36 @@ use Prim.Native.Nat.{ℕ, _≤_}
 use native.Mathlib.Omega.{arith}
 use lib.Dec.{eqb, lit≤}
 use Rattle.laws.proofs.Computed.{chosen}
-use Rattle.cursor.specs.declared.Place.{Place}
-use Rattle.cursor.specs.Places.{On}
-use Rattle.cursor.proofs.Tested.{home-on}
-use Rattle.motion.proofs.Stays.{left-on, right-on, up-on, down-on, first-on}
-use Rattle.addresses.specs.declared.Address.{Address}
-use Rattle.addresses.specs.declared.Address.the-variants.{Nowhere, There}
-use Rattle.addresses.specs.Addressing.{addressed}
-use Rattle.addresses.proofs.Stays.{Leads, address-on}
-use Rattle.sequences.specs.declared.Sequence.{Sequence}
-use Rattle.sequences.specs.declared.Order.{Order}
-use Rattle.sequences.specs.declared.Order.the-variants.{Skip, Left, Right, Up, Down, First, Clear, Home}
-use Rattle.sequences.specs.declared.Order.the-variants.{ShiftOut, ShiftIn, Show, Hide, Pair, Go, Write}
-use Rattle.sequences.specs.declared.Order.the-variants.{Second, Again}
-use Rattle.sequences.specs.Hearing.{inRange as goodSequence, heard}
-use Rattle.sequences.proofs.Stays.{InOrder, heard-in}
-use Rattle.cells.specs.Within.{Character}
-use Rattle.attributes.specs.declared.Attributes.{Attributes}
-use Rattle.attributes.specs.Within.{InForce}
-use Rattle.attributes.proofs.Stays.{start-in, out-in, in-in}
-use Rattle.pairs.proofs.Stays.{pair-in}
-use Rattle.pen.specs.declared.Last.{Last}
-use Rattle.pen.specs.declared.Last.the-variants.{Never, Character as Was}
-use Rattle.pen.specs.declared.Pen.{Pen}
-use Rattle.pen.specs.Pens.{InLast, InPen}
-use Rattle.planning.specs.declared.Asked.{Asked}
-use Rattle.planning.specs.declared.Asked.the-variants.{Nothing, Blank, Put}
-use Rattle.planning.specs.declared.Planned.{Planned}
-use Rattle.planning.specs.Changing.{withPlace, withAttributes, withSequence, withShown}
-use Rattle.planning.specs.Obeying.{keeps, again, lowered, keeping, entering, startAt, gone, obeyed}
-use Rattle.planning.specs.Planning.{planned}
+use Rattle.screen_cursor.specs.declared.Place.{Place}
+use Rattle.screen_cursor.specs.Places.{On}
+use Rattle.screen_cursor.proofs.Tested.{home-on}
+use Rattle.screen_motion.proofs.Stays.{left-on, right-on, up-on, down-on, first-on}
+use Rattle.screen_addresses.specs.declared.Address.{Address}
+use Rattle.screen_addresses.specs.declared.Address.the-variants.{Nowhere, There}
+use Rattle.screen_addresses.specs.Addressing.{addressed}
+use Rattle.screen_addresses.proofs.Stays.{Leads, address-on}
+use Rattle.screen_sequences.specs.declared.Sequence.{Sequence}
+use Rattle.screen_sequences.specs.declared.Order.{Order}
+use Rattle.screen_sequences.specs.declared.Order.the-variants.{Skip, Left, Right, Up, Down, First, Clear, Home}
+use Rattle.screen_sequences.specs.declared.Order.the-variants.{ShiftOut, ShiftIn, Show, Hide, Pair, Go, Write}
+use Rattle.screen_sequences.specs.declared.Order.the-variants.{Second, Again}
+use Rattle.screen_sequences.specs.Hearing.{inRange as goodSequence, heard}
+use Rattle.screen_sequences.proofs.Stays.{InOrder, heard-in}
+use Rattle.screen_cells.specs.Within.{Character}
+use Rattle.screen_attributes.specs.declared.Attributes.{Attributes}
+use Rattle.screen_attributes.specs.Within.{InForce}
+use Rattle.screen_attributes.proofs.Stays.{start-in, out-in, in-in}
+use Rattle.screen_escapes.proofs.Stays.{pair-in}
+use Rattle.screen_pen.specs.declared.Last.{Last}
+use Rattle.screen_pen.specs.declared.Last.the-variants.{Never, Character as Was}
+use Rattle.screen_pen.specs.declared.Pen.{Pen}
+use Rattle.screen_pen.specs.Pens.{InLast, InPen}
+use Rattle.screen_planning.specs.declared.Asked.{Asked}
+use Rattle.screen_planning.specs.declared.Asked.the-variants.{Nothing, Blank, Put}
+use Rattle.screen_planning.specs.declared.Planned.{Planned}
+use Rattle.screen_planning.specs.Changing.{withPlace, withAttributes, withSequence, withShown}
+use Rattle.screen_planning.specs.Obeying.{keeps, again, lowered, keeping, entering, startAt, gone, obeyed}
+use Rattle.screen_planning.specs.Planning.{planned}
 
 -- ---- a pen with one part changed
 

@@ -3,19 +3,19 @@ use mathlib.Core.Path.{_≡_, refl}
 use mathlib.Core.Bool.{true, false}
 use mathlib.Core.List.{List, [], _∷_, _++_, map}
 use Prim.Native.Nat.{ℕ}
-use Rattle.cursor.specs.declared.Place.{Place}
-use Rattle.cursor.specs.Places.{at}
-use Rattle.sequences.specs.declared.Sequence.the-variants.{Free}
-use Rattle.attributes.specs.declared.Waiting.the-variants.{Nothing, Ground}
-use Rattle.attributes.specs.declared.Attributes.{Attributes}
-use Rattle.attributes.specs.Attributing.{attributes}
-use Rattle.pen.specs.declared.Last.the-variants.{Never, Character}
-use Rattle.pen.specs.declared.Pen.{Pen}
-use Rattle.pen.specs.Pens.{freshPen}
-use Rattle.pen.specs.Strokes.{afterTimes}
-use Rattle.pen.proofs.Worked.{pen, start}
-use Rattle.planning.specs.Obeying.{gone, obeyed}
-use Rattle.planning.specs.Planning.{penAfter}
+use Rattle.screen_cursor.specs.declared.Place.{Place}
+use Rattle.screen_cursor.specs.Places.{at}
+use Rattle.screen_sequences.specs.declared.Sequence.the-variants.{Free}
+use Rattle.screen_attributes.specs.declared.Waiting.the-variants.{Nothing, Ground}
+use Rattle.screen_attributes.specs.declared.Attributes.{Attributes}
+use Rattle.screen_attributes.specs.Attributing.{attributes}
+use Rattle.screen_pen.specs.declared.Last.the-variants.{Never, Character}
+use Rattle.screen_pen.specs.declared.Pen.{Pen}
+use Rattle.screen_pen.specs.Pens.{freshPen}
+use Rattle.screen_pen.specs.Strokes.{afterTimes}
+use Rattle.screen_pen.proofs.Worked.{pen, start}
+use Rattle.screen_planning.specs.Obeying.{gone, obeyed}
+use Rattle.screen_planning.specs.Planning.{penAfter}
 
 -- the pen after these values
 abbrev after : Pen → List ℕ → Pen

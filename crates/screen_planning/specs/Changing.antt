@@ -1,9 +1,9 @@
 -- A pen with one part changed. Assumes nothing.
 use mathlib.Core.Bool.{Bool}
-use Rattle.cursor.specs.declared.Place.{Place}
-use Rattle.sequences.specs.declared.Sequence.{Sequence}
-use Rattle.attributes.specs.declared.Attributes.{Attributes}
-use Rattle.pen.specs.declared.Pen.{Pen}
+use Rattle.screen_cursor.specs.declared.Place.{Place}
+use Rattle.screen_sequences.specs.declared.Sequence.{Sequence}
+use Rattle.screen_attributes.specs.declared.Attributes.{Attributes}
+use Rattle.screen_pen.specs.declared.Pen.{Pen}
 
 abbrev pub withPlace : Pen → Place → Pen
 withPlace p x =

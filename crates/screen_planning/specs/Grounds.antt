@@ -2,19 +2,19 @@
 use mathlib.Core.Bool.{Bool, cond}
 use Prim.Native.Nat.{ℕ, zero, suc, _%_}
 use lib.Dec.{eqb}
-use Rattle.addresses.specs.Addressing.{good}
-use Rattle.sequences.specs.declared.Order.{Order}
-use Rattle.sequences.specs.declared.Order.the-variants.{Skip, Left, Right, Up, Down, First, Clear, Home}
-use Rattle.sequences.specs.declared.Order.the-variants.{ShiftOut, ShiftIn, Show, Hide, Pair, Go, Write}
-use Rattle.sequences.specs.declared.Order.the-variants.{Second, Again}
-use Rattle.attributes.specs.declared.Waiting.{Waiting}
-use Rattle.attributes.specs.declared.Waiting.the-variants.{Nothing, Ground}
-use Rattle.attributes.specs.Attributing.{grounds}
-use Rattle.pairs.specs.Pairing.{namesGround}
-use Rattle.writing.specs.Writing.{takes}
-use Rattle.pen.specs.declared.Last.{Last}
-use Rattle.pen.specs.declared.Last.the-variants.{Never, Character}
-use Rattle.pen.specs.declared.Pen.{Pen}
+use Rattle.screen_addresses.specs.Addressing.{good}
+use Rattle.screen_sequences.specs.declared.Order.{Order}
+use Rattle.screen_sequences.specs.declared.Order.the-variants.{Skip, Left, Right, Up, Down, First, Clear, Home}
+use Rattle.screen_sequences.specs.declared.Order.the-variants.{ShiftOut, ShiftIn, Show, Hide, Pair, Go, Write}
+use Rattle.screen_sequences.specs.declared.Order.the-variants.{Second, Again}
+use Rattle.screen_attributes.specs.declared.Waiting.{Waiting}
+use Rattle.screen_attributes.specs.declared.Waiting.the-variants.{Nothing, Ground}
+use Rattle.screen_attributes.specs.Attributing.{grounds}
+use Rattle.screen_escapes.specs.Pairing.{namesGround}
+use Rattle.screen_writing.specs.Writing.{takes}
+use Rattle.screen_pen.specs.declared.Last.{Last}
+use Rattle.screen_pen.specs.declared.Last.the-variants.{Never, Character}
+use Rattle.screen_pen.specs.declared.Pen.{Pen}
 
 pub data Fate : Type 0 where
   -- what waits, if any does, is in force, and none waits

@@ -2,16 +2,16 @@
 use mathlib.Core.Bool.{cond}
 use Prim.Native.Nat.{ℕ}
 use lib.Dec.{ltb}
-use Rattle.sequences.specs.declared.Order.{Order}
-use Rattle.sequences.specs.Hearing.{heard}
-use Rattle.pen.specs.declared.Pen.{Pen}
-use Rattle.pen.specs.Pens.{inRange}
-use Rattle.pen.specs.Strokes.{afterTimes}
-use Rattle.planning.specs.declared.Asked.{Asked}
-use Rattle.planning.specs.declared.Asked.the-variants.{Nothing, Blank, Put}
-use Rattle.planning.specs.declared.Planned.{Planned}
-use Rattle.planning.specs.Changing.{withSequence}
-use Rattle.planning.specs.Obeying.{keeps, obeyed}
+use Rattle.screen_sequences.specs.declared.Order.{Order}
+use Rattle.screen_sequences.specs.Hearing.{heard}
+use Rattle.screen_pen.specs.declared.Pen.{Pen}
+use Rattle.screen_pen.specs.Pens.{inRange}
+use Rattle.screen_pen.specs.Strokes.{afterTimes}
+use Rattle.screen_planning.specs.declared.Asked.{Asked}
+use Rattle.screen_planning.specs.declared.Asked.the-variants.{Nothing, Blank, Put}
+use Rattle.screen_planning.specs.declared.Planned.{Planned}
+use Rattle.screen_planning.specs.Changing.{withSequence}
+use Rattle.screen_planning.specs.Obeying.{keeps, obeyed}
 
 -- what a value orders, with what was unfinished
 abbrev pub ordered : Pen → ℕ → Order

@@ -5,7 +5,7 @@
 // Reach what the claims on grounds, on the last character, on US and on changed cells speak of; proofs/ holds their laws,
 // and in proofs/Worked values worked by hand.
 ghost use mathlib.Core.Path.{_≡_};
-ghost use Rattle.planning.specs.Planning.{plan as planFor};
+ghost use Rattle.screen_planning.specs.Planning.{plan as planFor};
 
 mod moves;
 mod orders;
@@ -13,7 +13,7 @@ mod orders;
 use moves::with_sequence;
 use orders::keep_cells;
 use orders::obey;
-use pen::Pen;
+use screen_pen::Pen;
 
 // What is asked of the cells.
 pub enum Asked {
@@ -36,9 +36,9 @@ pub fn plan(pen: Pen, value: u8) -> Planned
     if 127 < value {
         return keep_cells(pen);
     }
-    if ranges::in_range(pen) {
+    if screen_ranges::in_range(pen) {
         let sequence = pen.sequence;
-        let heard = sequences::hear(sequence, value);
+        let heard = screen_sequences::hear(sequence, value);
         let open = heard.sequence;
         let order = heard.order;
         obey(with_sequence(pen, open), order)

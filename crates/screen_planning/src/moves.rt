@@ -1,13 +1,13 @@
 // A pen with one part changed, or moved: to a place, down, or to where US leads.
 ghost use mathlib.Core.Path.{_≡_};
-ghost use Rattle.planning.specs.Changing.{withPlace, withAttributes, withSequence, withShown};
-ghost use Rattle.planning.specs.Obeying.{startAt, lowered, entering, gone};
-use addresses::Address;
-use attributes::Attributes;
-use cursor::Place;
-use pen::Kept;
-use pen::Pen;
-use sequences::Sequence;
+ghost use Rattle.screen_planning.specs.Changing.{withPlace, withAttributes, withSequence, withShown};
+ghost use Rattle.screen_planning.specs.Obeying.{startAt, lowered, entering, gone};
+use screen_addresses::Address;
+use screen_attributes::Attributes;
+use screen_cursor::Place;
+use screen_pen::Kept;
+use screen_pen::Pen;
+use screen_sequences::Sequence;
 
 pub(crate) fn with_place(mut pen: Pen, place: Place) -> Pen
     ensures { λ r. ⌜ r ≡ withPlace pen place ⌝ }
@@ -51,7 +51,7 @@ pub(crate) fn with_shown(mut pen: Pen, shown: bool) -> Pen
 pub(crate) fn start_at(pen: Pen, place: Place) -> Pen
     ensures { λ r. ⌜ r ≡ startAt pen place ⌝ }
 {
-    let start = attributes::start();
+    let start = screen_attributes::start();
     with_attributes(with_place(pen, place), start)
 }
 
@@ -62,7 +62,7 @@ pub(crate) fn go_down(pen: Pen) -> Pen
     if pen.place.row == 0 {
         with_attributes(with_place(pen, pen.kept.place), pen.kept.attributes)
     } else {
-        with_place(pen, motion::down(pen.place))
+        with_place(pen, screen_motion::down(pen.place))
     }
 }
 

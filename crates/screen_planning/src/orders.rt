@@ -1,6 +1,6 @@
 // What each order does to the pen, and asks of the cells.
 ghost use mathlib.Core.Path.{_≡_};
-ghost use Rattle.planning.specs.Obeying.{keeps, repeats, obeyed};
+ghost use Rattle.screen_planning.specs.Obeying.{keeps, repeats, obeyed};
 use crate::Asked;
 use crate::Planned;
 use crate::moves::go;
@@ -9,10 +9,10 @@ use crate::moves::start_at;
 use crate::moves::with_attributes;
 use crate::moves::with_place;
 use crate::moves::with_shown;
-use cursor::Place;
-use pen::Last;
-use pen::Pen;
-use sequences::Order;
+use screen_cursor::Place;
+use screen_pen::Last;
+use screen_pen::Pen;
+use screen_sequences::Order;
 
 // Nothing is asked of the cells.
 pub(crate) fn keep_cells(pen: Pen) -> Planned
@@ -40,19 +40,19 @@ fn change(pen: Pen, order: Order) -> Pen
 {
     let home = Place { row: 1, column: 1 };
     match order {
-        Order::Left => with_place(pen, motion::left(pen.place)),
-        Order::Right => with_place(pen, motion::right(pen.place)),
-        Order::Up => with_place(pen, motion::up(pen.place)),
+        Order::Left => with_place(pen, screen_motion::left(pen.place)),
+        Order::Right => with_place(pen, screen_motion::right(pen.place)),
+        Order::Up => with_place(pen, screen_motion::up(pen.place)),
         Order::Down => go_down(pen),
-        Order::First => with_place(pen, motion::first(pen.place)),
+        Order::First => with_place(pen, screen_motion::first(pen.place)),
         Order::Clear => start_at(pen, home),
         Order::Home => start_at(pen, home),
         Order::ShiftOut => with_attributes(pen, pen.attributes.shift_out()),
         Order::ShiftIn => with_attributes(pen, pen.attributes.shift_in()),
         Order::Show => with_shown(pen, true),
         Order::Hide => with_shown(pen, false),
-        Order::Pair(code) => with_attributes(pen, pairs::pair(pen.attributes, code)),
-        Order::Go { row, column } => go(pen, addresses::locate(row, column)),
+        Order::Pair(code) => with_attributes(pen, screen_escapes::pair(pen.attributes, code)),
+        Order::Go { row, column } => go(pen, screen_addresses::locate(row, column)),
         _ => pen,
     }
 }

@@ -1,22 +1,23 @@
-// Whether a pen lies in the ranges of the page. The crates `pen`, `attributes` and `sequences` say which do
-// (`specs/Pens`, `specs/Within`, `specs/Hearing`), and `pen`'s proofs/Stays that a pen in range stays so.
+// Whether a pen lies in the ranges of the page. The crates `screen_pen`, `screen_attributes` and `screen_sequences` say
+// which do (`specs/Pens`, `specs/Within`, `specs/Hearing`), and `screen_pen`'s proofs/Stays that a pen in range stays
+// so.
 ghost use mathlib.Core.Path.{_≡_};
-ghost use Rattle.sequences.specs.Hearing.{inRange as goodSequence};
-ghost use Rattle.attributes.specs.Within.{goodWaiting, good};
-ghost use Rattle.pen.specs.Pens.{goodLast, goodSpot, inRange};
-use attributes::Attributes;
-use attributes::Waiting;
-use cursor::Place;
-use pen::Last;
-use pen::Pen;
-use sequences::Sequence;
+ghost use Rattle.screen_sequences.specs.Hearing.{inRange as goodSequence};
+ghost use Rattle.screen_attributes.specs.Within.{goodWaiting, good};
+ghost use Rattle.screen_pen.specs.Pens.{goodLast, goodSpot, inRange};
+use screen_attributes::Attributes;
+use screen_attributes::Waiting;
+use screen_cursor::Place;
+use screen_pen::Last;
+use screen_pen::Pen;
+use screen_sequences::Sequence;
 
 fn last_in_range(last: Last) -> bool
     ensures { λ r. ⌜ r ≡ goodLast last ⌝ }
 {
     match last {
         Last::Never => true,
-        Last::Character { set, code } => cells::is_character(set, code),
+        Last::Character { set, code } => screen_cells::is_character(set, code),
     }
 }
 

@@ -6,12 +6,12 @@ use native.Mathlib.Omega.{arith}
 use lib.Dec.{ltb}
 use borrow.Author.Tests.{lt-ltb, le-ltb, eq-eqb, ne-eqb}
 use Rattle.laws.proofs.Computed.{holds, chosen}
-use Rattle.sequences.specs.declared.Sequence.{Sequence}
-use Rattle.sequences.specs.declared.Sequence.the-variants.{Free, Escape, Long, Control, Separator, Repeat}
-use Rattle.sequences.specs.declared.Sequence.the-variants.{Single, Address, Row}
-use Rattle.sequences.specs.declared.Order.the-variants.{Skip, Write, Second, Again}
-use Rattle.sequences.specs.declared.Heard.{Heard}
-use Rattle.sequences.specs.Hearing.{isFree, isSeparator, does, control, followed, heard}
+use Rattle.screen_sequences.specs.declared.Sequence.{Sequence}
+use Rattle.screen_sequences.specs.declared.Sequence.the-variants.{Free, Escape, Long, Control, Separator, Repeat}
+use Rattle.screen_sequences.specs.declared.Sequence.the-variants.{Single, Address, Row}
+use Rattle.screen_sequences.specs.declared.Order.the-variants.{Skip, Write, Second, Again}
+use Rattle.screen_sequences.specs.declared.Heard.{Heard}
+use Rattle.screen_sequences.specs.Hearing.{isFree, isSeparator, does, control, followed, heard}
 
 pub free : (q : Sequence) → isFree q ≡ true → q ≡ Free
 free Free e = refl

@@ -9,14 +9,14 @@ use borrow.Author.Tests.{leb-true}
 use Rattle.laws.proofs.Computed.{each}
 use Rattle.values.specs.Large.{Values}
 use Rattle.values.proofs.Found.{values-none, values-cons, values-head, values-tail}
-use Rattle.sequences.specs.declared.Sequence.{Sequence}
-use Rattle.sequences.specs.declared.Sequence.the-variants.{Free, Escape, Long, Control, Separator, Repeat}
-use Rattle.sequences.specs.declared.Sequence.the-variants.{Single, Address, Row}
-use Rattle.sequences.specs.declared.Heard.{Heard}
-use Rattle.sequences.specs.Hearing.{inRange, heard}
-use Rattle.sequences.specs.Opening.{opened, LeftOpen}
-use Rattle.sequences.proofs.Codes.{heard-code}
-use Rattle.sequences.proofs.Stays.{heard-in}
+use Rattle.screen_sequences.specs.declared.Sequence.{Sequence}
+use Rattle.screen_sequences.specs.declared.Sequence.the-variants.{Free, Escape, Long, Control, Separator, Repeat}
+use Rattle.screen_sequences.specs.declared.Sequence.the-variants.{Single, Address, Row}
+use Rattle.screen_sequences.specs.declared.Heard.{Heard}
+use Rattle.screen_sequences.specs.Hearing.{inRange, heard}
+use Rattle.screen_sequences.specs.Opening.{opened, LeftOpen}
+use Rattle.screen_sequences.proofs.Codes.{heard-code}
+use Rattle.screen_sequences.proofs.Stays.{heard-in}
 
 -- ---- what values leave open is in range
 

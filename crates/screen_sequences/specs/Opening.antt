@@ -3,9 +3,9 @@ use mathlib.Core.Path.{_≡_}
 use mathlib.Core.List.{List, [], _∷_}
 use Prim.Native.Nat.{ℕ}
 use Rattle.values.specs.Large.{Values}
-use Rattle.sequences.specs.declared.Sequence.{Sequence}
-use Rattle.sequences.specs.declared.Sequence.the-variants.{Free}
-use Rattle.sequences.specs.Hearing.{heard}
+use Rattle.screen_sequences.specs.declared.Sequence.{Sequence}
+use Rattle.screen_sequences.specs.declared.Sequence.the-variants.{Free}
+use Rattle.screen_sequences.specs.Hearing.{heard}
 
 -- what is unfinished after these values
 abbrev pub opened : Sequence → List ℕ → Sequence

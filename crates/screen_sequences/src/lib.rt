@@ -5,8 +5,8 @@
 // cursor, no attribute and no cell. specs/Hearing says the same, rule by rule, and specs/Opening which sequences values
 // leave open; proofs/Worked has codes and sequences worked by hand.
 ghost use mathlib.Core.Path.{_≡_};
-ghost use Rattle.sequences.specs.Hearing.{order, begins, escaped};
-ghost use Rattle.sequences.specs.Hearing.{dropped, again, single, followed, heard};
+ghost use Rattle.screen_sequences.specs.Hearing.{order, begins, escaped};
+ghost use Rattle.screen_sequences.specs.Hearing.{dropped, again, single, followed, heard};
 
 mod states;
 

@@ -3,9 +3,9 @@ use mathlib.Core.Path.{_≡_, refl}
 use mathlib.Core.Bool.{Bool, true, false}
 use mathlib.Core.List.{List, [], _∷_}
 use Prim.Native.Nat.{ℕ}
-use Rattle.cells.specs.declared.Cell.{Cell}
-use Rattle.cells.specs.Within.{goodCharacter}
-use Rattle.sheet.specs.Within.{goodCell}
+use Rattle.screen_cells.specs.declared.Cell.{Cell}
+use Rattle.screen_cells.specs.Within.{goodCharacter}
+use Rattle.screen_sheet.specs.Within.{goodCell}
 
 abbrev coloured : ℕ → ℕ → Cell
 coloured i g = record { set = 0; code = 65; ink = i; ground = g; flash = true; inverse = true }

@@ -7,12 +7,12 @@ use lib.Dec.{leb, lit≤}
 use lib.ListN.{take, set, replicate}
 use borrow.Author.Tests.{leb-true, le-leb}
 use Rattle.laws.proofs.Computed.{each}
-use Rattle.cells.specs.declared.Cell.{Cell}
-use Rattle.cells.specs.Characters.{blankOf}
-use Rattle.cells.specs.Within.{goodCharacter, InCell}
-use Rattle.cells.proofs.Tested.{character-true, true-character}
-use Rattle.sheet.specs.Clearing.{cleared}
-use Rattle.sheet.specs.Within.{goodCell, allGood, AllIn, none, also}
+use Rattle.screen_cells.specs.declared.Cell.{Cell}
+use Rattle.screen_cells.specs.Characters.{blankOf}
+use Rattle.screen_cells.specs.Within.{goodCharacter, InCell}
+use Rattle.screen_cells.proofs.Tested.{character-true, true-character}
+use Rattle.screen_sheet.specs.Clearing.{cleared}
+use Rattle.screen_sheet.specs.Within.{goodCell, allGood, AllIn, none, also}
 
 -- what would be read past the end of the cells
 abbrev pub noCell : Cell

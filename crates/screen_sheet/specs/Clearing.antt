@@ -1,8 +1,8 @@
 -- The cells of a screen, cleared (01, "Screen cells"). Assumes nothing.
 use mathlib.Core.List.{List, _++_}
 use lib.ListN.{take, replicate}
-use Rattle.cells.specs.declared.Cell.{Cell}
-use Rattle.cells.specs.Characters.{blankOf}
+use Rattle.screen_cells.specs.declared.Cell.{Cell}
+use Rattle.screen_cells.specs.Characters.{blankOf}
 
 -- "FF: rows 1 to 24 blank, row 0 kept"
 unfoldable pub cleared : List Cell → List Cell

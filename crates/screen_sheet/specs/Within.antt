@@ -2,8 +2,8 @@
 use mathlib.Core.Bool.{Bool, true, _&&_}
 use mathlib.Core.List.{List, [], _∷_}
 use lib.Dec.{leb}
-use Rattle.cells.specs.declared.Cell.{Cell}
-use Rattle.cells.specs.Within.{goodCharacter, InCell}
+use Rattle.screen_cells.specs.declared.Cell.{Cell}
+use Rattle.screen_cells.specs.Within.{goodCharacter, InCell}
 
 -- ---- the test
 

@@ -2,9 +2,9 @@
 //
 // specs/Clearing says what is left of them, specs/Within which are in range; proofs/ holds their laws.
 ghost use mathlib.Core.Path.{_≡_};
-ghost use Rattle.sheet.specs.Clearing.{cleared};
-ghost use Rattle.sheet.specs.Within.{goodCell, allGood};
-use cells::Cell;
+ghost use Rattle.screen_sheet.specs.Clearing.{cleared};
+ghost use Rattle.screen_sheet.specs.Within.{goodCell, allGood};
+use screen_cells::Cell;
 
 fn cell_in_range(cell: Cell) -> bool
     ensures { λ r. ⌜ r ≡ goodCell cell ⌝ }
@@ -15,7 +15,7 @@ fn cell_in_range(cell: Cell) -> bool
     if 7 < cell.ground {
         return false;
     }
-    cells::is_character(cell.set, cell.code)
+    screen_cells::is_character(cell.set, cell.code)
 }
 
 // Whether all thousand are in range.
@@ -38,7 +38,7 @@ pub fn in_range(cells: [Cell; 1000]) -> bool
 pub fn clear(old: [Cell; 1000]) -> [Cell; 1000]
     ensures { λ r. ⌜ r ≡ cleared old ⌝ }
 {
-    let blank = cells::blank();
+    let blank = screen_cells::blank();
     let mut cells = [blank; 1000];
     let mut i: usize = 0;
     while i < 40 {

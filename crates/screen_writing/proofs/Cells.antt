@@ -3,12 +3,12 @@
 use mathlib.Core.Path.{_≡_, refl}
 use mathlib.Core.Bool.{Bool, true, false, cond}
 use Prim.Native.Nat.{ℕ}
-use Rattle.cells.specs.declared.Cell.{Cell}
-use Rattle.attributes.specs.declared.Waiting.{Waiting}
-use Rattle.attributes.specs.declared.Waiting.the-variants.{Nothing, Ground}
-use Rattle.attributes.specs.declared.Attributes.{Attributes}
-use Rattle.writing.specs.Writing.{takes, afterWaiting, cellOf, written}
-use Rattle.writing.specs.Having.{Has, Alike}
+use Rattle.screen_cells.specs.declared.Cell.{Cell}
+use Rattle.screen_attributes.specs.declared.Waiting.{Waiting}
+use Rattle.screen_attributes.specs.declared.Waiting.the-variants.{Nothing, Ground}
+use Rattle.screen_attributes.specs.declared.Attributes.{Attributes}
+use Rattle.screen_writing.specs.Writing.{takes, afterWaiting, cellOf, written}
+use Rattle.screen_writing.specs.Having.{Has, Alike}
 
 -- with given attributes
 pub cell-has : (a : Attributes) (s d : ℕ) → Has (cellOf a s d) s d a (a .ground)

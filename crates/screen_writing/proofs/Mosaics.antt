@@ -2,11 +2,11 @@
 use mathlib.Core.Bool.{Bool}
 use Prim.Native.Nat.{ℕ}
 use Rattle.laws.proofs.Computed.{chosen}
-use Rattle.attributes.specs.declared.Waiting.{Waiting}
-use Rattle.attributes.specs.declared.Waiting.the-variants.{Nothing, Ground}
-use Rattle.attributes.specs.declared.Attributes.{Attributes}
-use Rattle.attributes.specs.Attributing.{Upright}
-use Rattle.writing.specs.Writing.{takes, afterWaiting, written}
+use Rattle.screen_attributes.specs.declared.Waiting.{Waiting}
+use Rattle.screen_attributes.specs.declared.Waiting.the-variants.{Nothing, Ground}
+use Rattle.screen_attributes.specs.declared.Attributes.{Attributes}
+use Rattle.screen_attributes.specs.Attributing.{Upright}
+use Rattle.screen_writing.specs.Writing.{takes, afterWaiting, written}
 
 waited-upright : (w : Waiting) (a : Attributes) (t : Bool) → Upright a → Upright (afterWaiting w a t)
 waited-upright Nothing a t h = h

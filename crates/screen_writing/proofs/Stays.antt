@@ -3,13 +3,13 @@ use mathlib.Core.Bool.{Bool}
 use Prim.Native.Nat.{ℕ}
 use native.Mathlib.Omega.{arith}
 use Rattle.laws.proofs.Computed.{chosen}
-use Rattle.cells.specs.Within.{Character, InCell}
-use Rattle.attributes.specs.declared.Waiting.{Waiting}
-use Rattle.attributes.specs.declared.Waiting.the-variants.{Nothing, Ground}
-use Rattle.attributes.specs.declared.Attributes.{Attributes}
-use Rattle.attributes.specs.Within.{InWaiting, InForce}
-use Rattle.writing.specs.Writing.{takes, afterWaiting, afterWriting, cellOf}
-use Rattle.writing.proofs.Cells.{cell-has}
+use Rattle.screen_cells.specs.Within.{Character, InCell}
+use Rattle.screen_attributes.specs.declared.Waiting.{Waiting}
+use Rattle.screen_attributes.specs.declared.Waiting.the-variants.{Nothing, Ground}
+use Rattle.screen_attributes.specs.declared.Attributes.{Attributes}
+use Rattle.screen_attributes.specs.Within.{InWaiting, InForce}
+use Rattle.screen_writing.specs.Writing.{takes, afterWaiting, afterWriting, cellOf}
+use Rattle.screen_writing.proofs.Cells.{cell-has}
 
 waited-in : {a : Attributes} (w : Waiting) (t : Bool) → InWaiting w → InForce a → InForce (afterWaiting w a t)
 waited-in Nothing t k h = h

@@ -6,10 +6,10 @@ use Prim.Native.Nat.{ℕ}
 use lib.Dec.{eqb}
 use borrow.Author.Tests.{eqb-true}
 use Rattle.laws.proofs.Computed.{holds}
-use Rattle.attributes.specs.declared.Waiting.{Waiting}
-use Rattle.attributes.specs.declared.Waiting.the-variants.{Nothing, Ground}
-use Rattle.attributes.specs.declared.Attributes.{Attributes}
-use Rattle.writing.specs.Writing.{takes, afterWaiting, afterWriting}
+use Rattle.screen_attributes.specs.declared.Waiting.{Waiting}
+use Rattle.screen_attributes.specs.declared.Waiting.the-variants.{Nothing, Ground}
+use Rattle.screen_attributes.specs.declared.Attributes.{Attributes}
+use Rattle.screen_writing.specs.Writing.{takes, afterWaiting, afterWriting}
 
 pub taker : (s d : ℕ) → takes s d ≡ true → (s ≡ 1) ⊎ ((s ≡ 0) × (d ≡ 32))
 taker s d e = go (eqb s 1) (eqb s 0) (eqb d 32) refl refl refl e

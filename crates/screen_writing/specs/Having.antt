@@ -1,8 +1,8 @@
 -- What the claims on written cells speak of (01, "Screen cells"). Assumes nothing.
 use mathlib.Core.Path.{_≡_}
 use Prim.Native.Nat.{ℕ}
-use Rattle.cells.specs.declared.Cell.{Cell}
-use Rattle.attributes.specs.declared.Attributes.{Attributes}
+use Rattle.screen_cells.specs.declared.Cell.{Cell}
+use Rattle.screen_attributes.specs.declared.Attributes.{Attributes}
 
 -- a cell of set s and code d, with the ink, flash and inverse of these attributes, and with ground g
 pub record Has (c : Cell) (s d : ℕ) (a : Attributes) (g : ℕ) : Type 0 where

@@ -2,12 +2,12 @@
 use mathlib.Core.Bool.{Bool, cond, _&&_, _||_}
 use Prim.Native.Nat.{ℕ}
 use lib.Dec.{eqb}
-use Rattle.cells.specs.declared.Cell.{Cell}
-use Rattle.attributes.specs.declared.Waiting.{Waiting}
-use Rattle.attributes.specs.declared.Waiting.the-variants.{Nothing, Ground}
-use Rattle.attributes.specs.declared.Attributes.{Attributes}
-use Rattle.attributes.specs.Attributing.{attributes}
-use Rattle.writing.specs.declared.Written.{Written}
+use Rattle.screen_cells.specs.declared.Cell.{Cell}
+use Rattle.screen_attributes.specs.declared.Waiting.{Waiting}
+use Rattle.screen_attributes.specs.declared.Waiting.the-variants.{Nothing, Ground}
+use Rattle.screen_attributes.specs.declared.Attributes.{Attributes}
+use Rattle.screen_attributes.specs.Attributing.{attributes}
+use Rattle.screen_writing.specs.declared.Written.{Written}
 
 -- "it waits until a G0 space or any G1 character, which takes it": the one predicate
 abbrev pub takes : ℕ → ℕ → Bool

@@ -3,10 +3,10 @@
 // specs/Writing says both; proofs/Cells shows what the cell has, proofs/Stays that attributes in range stay so,
 // proofs/Takers what takes a ground, and proofs/Mosaics that writing makes nothing inverse.
 ghost use mathlib.Core.Path.{_≡_};
-ghost use Rattle.writing.specs.Writing.{takes, afterWriting, written};
-use attributes::Attributes;
-use attributes::Waiting;
-use cells::Cell;
+ghost use Rattle.screen_writing.specs.Writing.{takes, afterWriting, written};
+use screen_attributes::Attributes;
+use screen_attributes::Waiting;
+use screen_cells::Cell;
 
 // One character written: the attributes in force with and after it, and its cell.
 pub struct Written {

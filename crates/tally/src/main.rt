@@ -4,7 +4,7 @@
 // bits among the 136 of seventeen zeros is judged, and a line says how many patterns there are, and how many of them
 // were passed as clean, mended back to the block, mended into another block, and refused. That the same numbers hold
 // for every valid block is a theorem, `one_count_holds_for_every_block` of block_demands.
-use reader::Verdict;
+use block_reader::Verdict;
 
 // A line on standard error says how far the count is, each time that so many patterns are judged.
 const PIECE: u64 = 1000000;
@@ -39,7 +39,7 @@ fn judged(arrived: [u8; 17], n: u64, counts: Counts) -> Counts {
     let mut block = arrived;
     let mut c = counts;
     c.patterns = std::num::wrapping_add_u64(c.patterns, 1);
-    match reader::mend(&mut block) {
+    match block_reader::mend(&mut block) {
         Verdict::Clean => c.clean = std::num::wrapping_add_u64(c.clean, 1),
         Verdict::Mended(_) => {
             if is_sent(&block) {
@@ -68,7 +68,7 @@ fn tally(block: [u8; 17], from: usize, left: u64, n: u64, counts: Counts) -> Cou
     let mut k = from;
     while k < 136 {
         let mut hit = block;
-        validity::flip(&mut hit, k);
+        block_validity::flip(&mut hit, k);
         c = tally(hit, k + 1, left - 1, n, c);
         k += 1;
     }

@@ -8,7 +8,7 @@ use crate::words::bytes as bytes_of;
 use crate::words::number;
 use crate::words::part;
 use crate::words::write_bytes;
-use maker::Made;
+use block_maker::Made;
 
 // What the maker answered: its number, and the place of a value too large.
 fn write_made(made: Made) {

@@ -15,7 +15,7 @@ use crate::words::place_among;
 use links::Answer;
 use links::Links;
 use links::Outcome;
-use sending::Sent;
+use links_sending::Sent;
 
 // What words ask of the links.
 enum Wish {
@@ -100,7 +100,7 @@ fn granted(wish: Wish, words: &[u8], now: Links, known: &mut bool) -> Outcome {
     Outcome {
         next,
         answer: Answer::Taken,
-        sent: sending::silence(),
+        sent: links_sending::silence(),
     }
 }
 

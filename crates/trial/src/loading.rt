@@ -9,15 +9,15 @@ use crate::words::is_dash;
 use crate::words::number;
 use crate::words::part;
 use crate::words::place_among;
-use attributes::Attributes;
-use attributes::Waiting;
-use cells::Cell;
-use cursor::Place;
-use page::Screen;
-use pen::Kept;
-use pen::Last;
-use pen::Pen;
-use sequences::Sequence;
+use screen_attributes::Attributes;
+use screen_attributes::Waiting;
+use screen_cells::Cell;
+use screen_cursor::Place;
+use screen_page::Screen;
+use screen_pen::Kept;
+use screen_pen::Last;
+use screen_pen::Pen;
+use screen_sequences::Sequence;
 
 // Whether a word names the thousand cells: seven digits each, of which the last two are 0 or 1.
 fn are_cells(word: &[u8]) -> bool {
@@ -49,7 +49,7 @@ fn cell_of(seven: &[u8]) -> Cell {
 
 // The cells that such a word names.
 fn cells_of(word: &[u8]) -> [Cell; 1000] {
-    let blank = cells::blank();
+    let blank = screen_cells::blank();
     let mut cells = [blank; 1000];
     let mut i = 0;
     while i < 1000 {

@@ -30,12 +30,12 @@ mod wires;
 mod words;
 
 use board::Board;
+use line_receiver::Receiver;
 use lines::At;
 use lines::LONGEST;
 use links::Links;
-use page::Screen;
 use parts::first;
-use receiver::Receiver;
+use screen_page::Screen;
 use words::NONE;
 use words::after;
 use words::part;

@@ -10,7 +10,7 @@ use crate::words::decimal;
 use crate::words::part;
 use crate::words::write_count;
 use board::Board;
-use pieces::Answer;
+use board_pieces::Answer;
 
 // How many bytes a piece has, and how many each output has room for.
 struct Sizes {
@@ -76,7 +76,7 @@ fn hear(
     socket: &mut [u8],
     requests: &mut [u8],
 ) -> Board {
-    let done = pieces::lines(now, piece, keyboard, modem, socket, requests);
+    let done = board_pieces::lines(now, piece, keyboard, modem, socket, requests);
     let said = done.answer;
     let next = done.next;
     write_answer(said);

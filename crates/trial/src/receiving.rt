@@ -11,9 +11,9 @@ use crate::words::place_among;
 use crate::words::write_bytes;
 use crate::words::write_count;
 use crate::words::write_number;
-use receiver::Phase;
-use receiver::Receiver;
-use receiver::Stepped;
+use line_receiver::Phase;
+use line_receiver::Receiver;
+use line_receiver::Stepped;
 
 // Answers a command of this family, from its second word on and up to the end of the line: the receiver after it. Words
 // that are no command leave it as it is, and are not `known`.

@@ -15,9 +15,9 @@ use crate::words::field;
 use crate::words::number;
 use crate::words::part;
 use crate::words::place_among;
-use page::Read;
-use page::Screen;
 use screen::Answer;
+use screen_page::Read;
+use screen_page::Screen;
 
 // As many values as a run may have.
 const LONGEST_RUN: usize = 4000;

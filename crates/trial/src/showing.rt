@@ -4,12 +4,12 @@ use crate::words::letter;
 use crate::words::part;
 use crate::words::write_bytes;
 use crate::words::write_number;
-use attributes::Attributes;
-use attributes::Waiting;
-use cells::Cell;
-use pen::Last;
-use pen::Pen;
-use sequences::Sequence;
+use screen_attributes::Attributes;
+use screen_attributes::Waiting;
+use screen_cells::Cell;
+use screen_pen::Last;
+use screen_pen::Pen;
+use screen_sequences::Sequence;
 
 // The names of unfinished sequences, but for the one that has a code.
 pub(crate) const SEQUENCES: [u8; 29] = *b"- esc esc2 csi us rep ss2 sep";

@@ -12,7 +12,7 @@ use crate::wires::write_links;
 use crate::words::write_bytes;
 use board::Board;
 use board::Outcome;
-use feeding::Outlet;
+use board_feeding::Outlet;
 
 // `dump`.
 pub(crate) fn dump(now: Board) -> Board {

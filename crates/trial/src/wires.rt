@@ -9,11 +9,11 @@ use crate::words::letter;
 use crate::words::part;
 use crate::words::place_among;
 use crate::words::write_bytes;
-use hearing::Unfinished;
 use links::Links;
-use sending::Bytes;
-use wiring::Row;
-use wiring::Table;
+use links_hearing::Unfinished;
+use links_sending::Bytes;
+use links_wiring::Row;
+use links_wiring::Table;
 
 // Whether a 1 stands at a place; there is to be a 0 or a 1.
 fn mark_of(word: &[u8], at: usize, good: &mut bool) -> bool {

@@ -7,10 +7,10 @@ use lib.ListN.{length, take}
 use lib.Seq.{length-take-le}
 use borrow.Author.Needs.{needs}
 use Rattle.numbers.specs.Numbers.{Told}
-use Rattle.reader.specs.declared.Verdict.{Verdict}
-use Rattle.reader.specs.declared.Verdict.the-variants.{Clean, Mended, Repeat, WrongLength}
-use Rattle.reader.specs.Judging.{told, judged, bitNamed, handedBy, handed}
-use Rattle.reader.proofs.Handed.{handed-as, clean-long, mended-long}
+use Rattle.block_reader.specs.declared.Verdict.{Verdict}
+use Rattle.block_reader.specs.declared.Verdict.the-variants.{Clean, Mended, Repeat, WrongLength}
+use Rattle.block_reader.specs.Judging.{told, judged, bitNamed, handedBy, handed}
+use Rattle.block_reader.proofs.Handed.{handed-as, clean-long, mended-long}
 use Rattle.block.proofs.judge.Statement.{statement}
 use Rattle.block.proofs.judge.Tie as tie
 

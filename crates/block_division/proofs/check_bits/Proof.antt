@@ -1,4 +1,4 @@
--- `division::check_bits` meets its contract: m is the check bits so far, mirrored. Assumes nothing.
+-- `block_division::check_bits` meets its contract: m is the check bits so far, mirrored. Assumes nothing.
 use mathlib.Core.Path.{_≡_, refl, ap, _∙_}
 use mathlib.Core.List.{List}
 use Prim.Native.Nat.{ℕ, _-_, _≤_, _<_, zero-le}
@@ -7,12 +7,12 @@ use lib.ListN.{length, getD, take}
 use lib.Seq.{take-all}
 use lib.Bits.{bitXor, xor-lt}
 use borrow.Author.Needs.{needs}
-use Rattle.division.specs.Division.{lowBits, bits, reduce, divide, checkBits}
-use Rattle.division.specs.Polynomials.{polynomial}
-use Rattle.division.specs.Table.{mirrored, entering, Remainders}
-use Rattle.division.proofs.Entering.{rule, next-byte, so-far-lt, back-again}
-use Rattle.division.proofs.check_bits.Statement.{statement}
-use Rattle.division.proofs.check_bits.Tie as tie
+use Rattle.block_division.specs.Division.{lowBits, bits, reduce, divide, checkBits}
+use Rattle.block_division.specs.Polynomials.{polynomial}
+use Rattle.block_division.specs.Table.{mirrored, entering, Remainders}
+use Rattle.block_division.proofs.Entering.{rule, next-byte, so-far-lt, back-again}
+use Rattle.block_division.proofs.check_bits.Statement.{statement}
+use Rattle.block_division.proofs.check_bits.Tie as tie
 
 abbrev Inv-loop : tie.InvT-loop
 Inv-loop bytes table m₀ i₀ m i =

@@ -1,13 +1,13 @@
--- `division::mirror` meets its contract: what it makes of a byte is computed at all 256. Assumes nothing.
+-- `block_division::mirror` meets its contract: what it makes of a byte is computed at all 256. Assumes nothing.
 use Prim.Native.Nat.{ℕ, _*_, _/_, _%_}
 use lib.Bits.{bitAnd, bitOr}
 use borrow.Author.Needs.{needs}
 use Rattle.laws.proofs.Computed.{equal-at}
-use Rattle.division.specs.Division.{lowBits}
-use Rattle.division.specs.Polynomials.{polynomial}
-use Rattle.division.specs.Table.{mirrored}
-use Rattle.division.proofs.mirror.Statement.{statement}
-use Rattle.division.proofs.mirror.Tie as tie
+use Rattle.block_division.specs.Division.{lowBits}
+use Rattle.block_division.specs.Polynomials.{polynomial}
+use Rattle.block_division.specs.Table.{mirrored}
+use Rattle.block_division.proofs.mirror.Statement.{statement}
+use Rattle.block_division.proofs.mirror.Tie as tie
 
 -- three bits go up, one stays and three come down
 abbrev made : ℕ → ℕ

@@ -1,4 +1,4 @@
--- `maker::fill` meets its contract: the first i bytes are useful ones, and the others as they were. Assumes
+-- `block_maker::fill` meets its contract: the first i bytes are useful ones, and the others as they were. Assumes
 -- nothing.
 use mathlib.Core.Path.{_≡_, refl, ap, ap₂, _∙_}
 use mathlib.Core.List.{List, _++_}
@@ -7,10 +7,10 @@ use native.Mathlib.Omega.{arith}
 use lib.ListN.{length, take, drop, set, length-set}
 use lib.Seq.{take-all}
 use Rattle.laws.proofs.Lists.{put}
-use Rattle.maker.specs.Making.{useful}
-use Rattle.maker.proofs.Blocks.{useful-length}
-use Rattle.maker.proofs.fill.Statement.{statement}
-use Rattle.maker.proofs.fill.Tie as tie
+use Rattle.block_maker.specs.Making.{useful}
+use Rattle.block_maker.proofs.Blocks.{useful-length}
+use Rattle.block_maker.proofs.fill.Statement.{statement}
+use Rattle.block_maker.proofs.fill.Tie as tie
 
 abbrev Inv-loop : tie.InvT-loop
 Inv-loop values out₀ i₀ out i =

@@ -1,4 +1,4 @@
--- `maker::make` meets its contract: each answer has passed the tests before its own. Assumes nothing.
+-- `block_maker::make` meets its contract: each answer has passed the tests before its own. Assumes nothing.
 use mathlib.Core.Path.{_≡_, sym, _∙_, subst}
 use mathlib.Core.List.{List}
 use Prim.Native.Nat.{ℕ, _≤_, _<_}
@@ -7,9 +7,9 @@ use lib.ListN.{length}
 use borrow.Author.Needs.{needs}
 use borrow.Author.Tests.{lt-ltb, le-ltb, eq-eqb, ne-eqb}
 use Rattle.values.specs.Large.{firstLarge}
-use Rattle.maker.proofs.Written.{both-written}
-use Rattle.maker.proofs.make.Statement.{statement}
-use Rattle.maker.proofs.make.Tie as tie
+use Rattle.block_maker.proofs.Written.{both-written}
+use Rattle.block_maker.proofs.make.Statement.{statement}
+use Rattle.block_maker.proofs.make.Tie as tie
 
 returns : tie.Need-returns
 returns c = (simp (eq-eqb _ _ (c .if1 .taken)), simp (eq-eqb _ _ (c .if1 .taken)))

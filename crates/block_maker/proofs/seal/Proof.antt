@@ -1,4 +1,4 @@
--- `maker::seal` meets its contract. Assumes nothing.
+-- `block_maker::seal` meets its contract. Assumes nothing.
 use mathlib.Core.Path.{sym, ap, _∙_}
 use mathlib.Core.List.{List}
 use Prim.Native.Nat.{ℕ}
@@ -6,10 +6,10 @@ use native.Mathlib.Omega.{arith}
 use lib.ListN.{set}
 use lib.Seq.{length-take-le}
 use borrow.Author.Needs.{needs}
-use Rattle.parity.specs.Parity.{withParity}
-use Rattle.maker.proofs.Written.{seal-stores}
-use Rattle.maker.proofs.seal.Statement.{statement}
-use Rattle.maker.proofs.seal.Tie as tie
+use Rattle.block_parity.specs.Parity.{withParity}
+use Rattle.block_maker.proofs.Written.{seal-stores}
+use Rattle.block_maker.proofs.seal.Statement.{statement}
+use Rattle.block_maker.proofs.seal.Tie as tie
 
 slice-reshare-prefix-check-bits : tie.Need-slice-reshare-prefix-check-bits
 slice-reshare-prefix-check-bits c = search needs

@@ -1,9 +1,9 @@
--- `maker::useful_at` meets its contract. Assumes nothing.
+-- `block_maker::useful_at` meets its contract. Assumes nothing.
 use mathlib.Core.Path.{sym, _∙_}
 use borrow.Author.Needs.{needs}
-use Rattle.maker.proofs.Written.{useful-in, useful-past}
-use Rattle.maker.proofs.useful_at.Statement.{statement}
-use Rattle.maker.proofs.useful_at.Tie as tie
+use Rattle.block_maker.proofs.Written.{useful-in, useful-past}
+use Rattle.block_maker.proofs.useful_at.Statement.{statement}
+use Rattle.block_maker.proofs.useful_at.Tie as tie
 
 shared-slice-read-with-parity : tie.Need-shared-slice-read-with-parity
 shared-slice-read-with-parity c = search needs

@@ -1,4 +1,4 @@
--- `maker::values` meets its contract: the first i places hold values, and the others are as they began. Assumes
+-- `block_maker::values` meets its contract: the first i places hold values, and the others are as they began. Assumes
 -- nothing.
 use mathlib.Core.Path.{_≡_, refl, ap, ap₂, sym, _∙_}
 use mathlib.Core.List.{List, _++_, append-nil}
@@ -8,10 +8,10 @@ use lib.ListN.{length, take, drop, set, replicate}
 use lib.Seq.{take-all}
 use borrow.Author.Needs.{needs}
 use Rattle.laws.proofs.Lists.{put}
-use Rattle.maker.specs.Making.{valuesOf}
-use Rattle.maker.proofs.Blocks.{values-length, value-at}
-use Rattle.maker.proofs.values.Statement.{statement}
-use Rattle.maker.proofs.values.Tie as tie
+use Rattle.block_maker.specs.Making.{valuesOf}
+use Rattle.block_maker.proofs.Blocks.{values-length, value-at}
+use Rattle.block_maker.proofs.values.Statement.{statement}
+use Rattle.block_maker.proofs.values.Tie as tie
 
 abbrev Inv-loop : tie.InvT-loop
 Inv-loop bytes values₀ i₀ values i = (i ≤ 15) × (values ≡ take i (valuesOf bytes) ++ drop i (replicate 15 0))

@@ -1,4 +1,5 @@
--- `parity::are_even` meets its contract: those seen and those that are left are all even where all are. Assumes nothing.
+-- `block_parity::are_even` meets its contract: those seen and those that are left are all even where all are. Assumes
+-- nothing.
 use mathlib.Core.Path.{_≡_, refl, sym, ap, ap₂, _∙_}
 use mathlib.Core.Bool.{Bool, true, false, _&&_}
 use mathlib.Core.List.{List}
@@ -6,10 +7,10 @@ use mathlib.Core.Logic.{⊎-elim}
 use Prim.Native.Nat.{ℕ, _+_, _-_, _≤_, _<_}
 use native.Mathlib.Omega.{arith}
 use lib.ListN.{length, drop}
-use Rattle.parity.specs.Parity.{allEven}
-use Rattle.parity.proofs.Parities.{evens-turn, evens-done}
-use Rattle.parity.proofs.are_even.Statement.{statement}
-use Rattle.parity.proofs.are_even.Tie as tie
+use Rattle.block_parity.specs.Parity.{allEven}
+use Rattle.block_parity.proofs.Parities.{evens-turn, evens-done}
+use Rattle.block_parity.proofs.are_even.Statement.{statement}
+use Rattle.block_parity.proofs.are_even.Tie as tie
 
 abbrev Inv-loop : tie.InvT-loop
 Inv-loop bytes all₀ i₀ all i = (i ≤ length bytes) × (all && allEven (drop i bytes) ≡ allEven bytes)

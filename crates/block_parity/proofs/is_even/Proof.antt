@@ -1,4 +1,4 @@
--- `parity::is_even` meets its contract: the bit that is left of each byte is its parity, computed at all 256.
+-- `block_parity::is_even` meets its contract: the bit that is left of each byte is its parity, computed at all 256.
 -- Assumes nothing.
 use mathlib.Core.Path.{ap}
 use Prim.Native.Nat.{ℕ, _/_, _%_}
@@ -6,10 +6,10 @@ use lib.Dec.{eqb}
 use lib.Bits.{bitXor}
 use borrow.Author.Needs.{needs}
 use Rattle.laws.proofs.Computed.{Equal, equal-at}
-use Rattle.division.specs.Division.{lowBits}
-use Rattle.parity.specs.Parity.{ones, even}
-use Rattle.parity.proofs.is_even.Statement.{statement}
-use Rattle.parity.proofs.is_even.Tie as tie
+use Rattle.block_division.specs.Division.{lowBits}
+use Rattle.block_parity.specs.Parity.{ones, even}
+use Rattle.block_parity.proofs.is_even.Statement.{statement}
+use Rattle.block_parity.proofs.is_even.Tie as tie
 
 abbrev four : ℕ → ℕ
 four b = bitXor b (b / 16)

@@ -1,4 +1,4 @@
--- `parity::odd_bytes` meets its contract: n and the odd bytes that are left are all of them. Assumes nothing.
+-- `block_parity::odd_bytes` meets its contract: n and the odd bytes that are left are all of them. Assumes nothing.
 use mathlib.Core.Path.{_≡_, sym, _∙_}
 use mathlib.Core.Logic.{⊎-elim}
 use mathlib.Core.List.{List}
@@ -6,10 +6,10 @@ use Prim.Native.Nat.{ℕ, _+_, _-_, _≤_, _<_}
 use native.Mathlib.Omega.{arith}
 use lib.ListN.{length, drop}
 use borrow.Author.Tests.{not-true, not-false}
-use Rattle.parity.specs.Parity.{odds}
-use Rattle.parity.proofs.Parities.{odds-turn, odds-done}
-use Rattle.parity.proofs.odd_bytes.Statement.{statement}
-use Rattle.parity.proofs.odd_bytes.Tie as tie
+use Rattle.block_parity.specs.Parity.{odds}
+use Rattle.block_parity.proofs.Parities.{odds-turn, odds-done}
+use Rattle.block_parity.proofs.odd_bytes.Statement.{statement}
+use Rattle.block_parity.proofs.odd_bytes.Tie as tie
 
 abbrev Inv-loop : tie.InvT-loop
 Inv-loop bytes n₀ i₀ n i = (i ≤ length bytes) × (n ≤ i) × (n + odds (drop i bytes) ≡ odds bytes)

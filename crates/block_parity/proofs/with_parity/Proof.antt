@@ -1,11 +1,11 @@
--- `parity::with_parity` meets its contract. Assumes nothing.
+-- `block_parity::with_parity` meets its contract. Assumes nothing.
 use mathlib.Core.Path.{sym, _∙_}
 use Prim.Native.Nat.{_%_}
 use native.Mathlib.Nat.{mod-lt, zero-lt-suc}
 use borrow.Author.Needs.{needs}
-use Rattle.parity.proofs.Parities.{parity-is, parity-low}
-use Rattle.parity.proofs.with_parity.Statement.{statement}
-use Rattle.parity.proofs.with_parity.Tie as tie
+use Rattle.block_parity.proofs.Parities.{parity-is, parity-low}
+use Rattle.block_parity.proofs.with_parity.Statement.{statement}
+use Rattle.block_parity.proofs.with_parity.Tie as tie
 
 is-even-requires : tie.Need-is-even-requires
 is-even-requires c κs = search needs

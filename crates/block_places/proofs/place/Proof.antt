@@ -1,10 +1,10 @@
--- `places::place` meets its contract, by the table's rule. Assumes nothing.
+-- `block_places::place` meets its contract, by the table's rule. Assumes nothing.
 use Prim.Native.Nat.{_%_}
 use native.Mathlib.Nat.{mod-lt, zero-lt-suc}
 use borrow.Author.Needs.{needs}
-use Rattle.places.proofs.Pointed.{pointed}
-use Rattle.places.proofs.place.Statement.{statement}
-use Rattle.places.proofs.place.Tie as tie
+use Rattle.block_places.proofs.Pointed.{pointed}
+use Rattle.block_places.proofs.place.Statement.{statement}
+use Rattle.block_places.proofs.place.Tie as tie
 
 cast-result : tie.Need-cast-result
 cast-result c = search needs

@@ -1,8 +1,8 @@
--- `reader::is_the_odd_one` meets its contract. Assumes nothing.
+-- `block_reader::is_the_odd_one` meets its contract. Assumes nothing.
 use borrow.Author.Needs.{needs}
 use borrow.Author.Tests.{eq-eqb, ne-eqb}
-use Rattle.reader.proofs.is_the_odd_one.Statement.{statement}
-use Rattle.reader.proofs.is_the_odd_one.Tie as tie
+use Rattle.block_reader.proofs.is_the_odd_one.Statement.{statement}
+use Rattle.block_reader.proofs.is_the_odd_one.Tie as tie
 
 returns : tie.Need-returns
 returns c = simp (ne-eqb _ _ (c .if1 .taken))

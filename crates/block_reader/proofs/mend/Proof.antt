@@ -1,4 +1,4 @@
--- `reader::mend` meets its contract: each answer is right, and so it is the judged one. Assumes nothing.
+-- `block_reader::mend` meets its contract: each answer is right, and so it is the judged one. Assumes nothing.
 use mathlib.Core.Path.{_≡_, refl, sym, ap, _∙_}
 use mathlib.Core.Logic.{⊎-elim}
 use mathlib.Core.List.{List}
@@ -11,15 +11,15 @@ use lib.Seq.{length-take-le}
 use borrow.Author.Needs.{needs}
 use borrow.Author.Tests.{eqb-true, eqb-false, not-true, not-false}
 use Rattle.laws.proofs.Computed.{fails, holds}
-use Rattle.parity.specs.Parity.{allEven, odds}
-use Rattle.validity.specs.Block.{remainder}
-use Rattle.validity.specs.Units.{unit}
-use Rattle.validity.proofs.Powers.{remainder-lt}
-use Rattle.reader.specs.declared.Verdict.the-variants.{Clean, Mended, Repeat, WrongLength}
-use Rattle.reader.proofs.Verdicts.{settled}
-use Rattle.reader.proofs.Mending.{not-zero, clean, not-mendable, elsewhere, mended}
-use Rattle.reader.proofs.mend.Statement.{statement}
-use Rattle.reader.proofs.mend.Tie as tie
+use Rattle.block_parity.specs.Parity.{allEven, odds}
+use Rattle.block_validity.specs.Block.{remainder}
+use Rattle.block_validity.specs.Units.{unit}
+use Rattle.block_validity.proofs.Powers.{remainder-lt}
+use Rattle.block_reader.specs.declared.Verdict.the-variants.{Clean, Mended, Repeat, WrongLength}
+use Rattle.block_reader.proofs.Verdicts.{settled}
+use Rattle.block_reader.proofs.Mending.{not-zero, clean, not-mendable, elsewhere, mended}
+use Rattle.block_reader.proofs.mend.Statement.{statement}
+use Rattle.block_reader.proofs.mend.Tie as tie
 
 -- ---- what is known once parities and remainder are: the block has seventeen bytes, and the last is zero
 

@@ -1,4 +1,4 @@
--- `validity::flip` meets its contract: the table of weights holds the powers of two. Assumes nothing.
+-- `block_validity::flip` meets its contract: the table of weights holds the powers of two. Assumes nothing.
 use mathlib.Core.Path.{_≡_, sym, ap}
 use mathlib.Core.Bool.{Bool}
 use mathlib.Core.List.{List, [], _∷_}
@@ -9,9 +9,9 @@ use lib.ListN.{getD, set}
 use lib.Seq.{set-out}
 use borrow.Author.Needs.{needs}
 use Rattle.laws.proofs.Computed.{at}
-use Rattle.validity.specs.Changed.{turned, flip}
-use Rattle.validity.proofs.flip.Statement.{statement}
-use Rattle.validity.proofs.flip.Tie as tie
+use Rattle.block_validity.specs.Changed.{turned, flip}
+use Rattle.block_validity.proofs.flip.Statement.{statement}
+use Rattle.block_validity.proofs.flip.Tie as tie
 
 abbrev weights : List ℕ
 weights = 1 ∷ 2 ∷ 4 ∷ 8 ∷ 16 ∷ 32 ∷ 64 ∷ 128 ∷ []

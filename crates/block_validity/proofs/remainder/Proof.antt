@@ -1,4 +1,4 @@
--- `validity::remainder` meets its contract. Assumes nothing.
+-- `block_validity::remainder` meets its contract. Assumes nothing.
 use mathlib.Core.Path.{sym, ap, _∙_}
 use mathlib.Core.List.{List}
 use Prim.Native.Nat.{ℕ, _%_}
@@ -7,9 +7,9 @@ use lib.ListN.{getD}
 use lib.Seq.{length-take-le}
 use lib.Bits.{bitXor}
 use borrow.Author.Needs.{needs}
-use Rattle.validity.proofs.Powers.{remainder-by-check, remainder-short}
-use Rattle.validity.proofs.remainder.Statement.{statement}
-use Rattle.validity.proofs.remainder.Tie as tie
+use Rattle.block_validity.proofs.Powers.{remainder-by-check, remainder-short}
+use Rattle.block_validity.proofs.remainder.Statement.{statement}
+use Rattle.block_validity.proofs.remainder.Tie as tie
 
 check-bits-requires : tie.Need-check-bits-requires
 check-bits-requires c κs = search needs

@@ -1,6 +1,6 @@
 -- The theorem is proved where its words are. Assumes nothing.
-use Rattle.pieces.proofs.Cut.{in-two, in-one}
-use Rattle.pieces.proofs.Numbered.{cut-run, cut-handed, cut-asked}
+use Rattle.board_pieces.proofs.Cut.{in-two, in-one}
+use Rattle.board_pieces.proofs.Numbered.{cut-run, cut-handed, cut-asked}
 use Rattle.board_demands.proofs.a_cut_changes_nothing.Statement.{statement}
 use Rattle.board_demands.proofs.a_cut_changes_nothing.Tie as tie
 

@@ -1,6 +1,6 @@
 -- The theorem is proved where its words are. Assumes nothing.
-use Rattle.pieces.proofs.Numbered.{numbers}
-use Rattle.pieces.proofs.Taken.{has-room, takes, taken-whole, nothing-taken}
+use Rattle.board_pieces.proofs.Numbered.{numbers}
+use Rattle.board_pieces.proofs.Taken.{has-room, takes, taken-whole, nothing-taken}
 use Rattle.board_demands.proofs.a_piece_gives_its_number.Statement.{statement}
 use Rattle.board_demands.proofs.a_piece_gives_its_number.Tie as tie
 

@@ -1,5 +1,5 @@
 -- The theorem is proved where its words are. Assumes nothing.
-use Rattle.pieces.proofs.Noting.{noted-numbers, places, not-taken, too-few, notes-cut}
+use Rattle.board_pieces.proofs.Noting.{noted-numbers, places, not-taken, too-few, notes-cut}
 use Rattle.board_demands.proofs.a_piece_with_notes_is_that_piece.Statement.{statement}
 use Rattle.board_demands.proofs.a_piece_with_notes_is_that_piece.Tie as tie
 

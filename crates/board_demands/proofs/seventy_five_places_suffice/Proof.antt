@@ -1,5 +1,5 @@
 -- The theorem is proved where its words are. Assumes nothing.
-use Rattle.feeding.proofs.Suffices.{enough}
+use Rattle.board_feeding.proofs.Suffices.{enough}
 use Rattle.board_demands.proofs.seventy_five_places_suffice.Statement.{statement}
 use Rattle.board_demands.proofs.seventy_five_places_suffice.Tie as tie
 

@@ -1,5 +1,5 @@
 -- The theorem is proved where its words are. Assumes nothing.
-use Rattle.pieces.proofs.Taken.{surely-taken}
+use Rattle.board_pieces.proofs.Taken.{surely-taken}
 use Rattle.board_demands.proofs.such_outputs_surely_suffice.Statement.{statement}
 use Rattle.board_demands.proofs.such_outputs_surely_suffice.Tie as tie
 

@@ -1,6 +1,6 @@
 -- The theorem is proved where its words are. Assumes nothing.
 use Rattle.board.proofs.Shown.{page-shown, page-met}
-use Rattle.pieces.proofs.Shown.{piece-shown}
+use Rattle.board_pieces.proofs.Shown.{piece-shown}
 use Rattle.board_demands.proofs.Example.{example}
 use Rattle.board_demands.proofs.the_page_shown_is_the_page_sent.Statement.{statement}
 use Rattle.board_demands.proofs.the_page_shown_is_the_page_sent.Tie as tie

@@ -1,4 +1,4 @@
--- `feeding::append` meets its contract. Assumes nothing.
+-- `board_feeding::append` meets its contract. Assumes nothing.
 use mathlib.Core.Path.{_≡_, sym, ap, _∙_}
 use mathlib.Core.List.{List}
 use Prim.Native.Nat.{ℕ, _+_, _-_, _≤_}
@@ -7,9 +7,9 @@ use native.Mathlib.Omega.{arith}
 use lib.ListN.{length, getD, set, length-set}
 use lib.Seq.{paste, paste-zero, paste-suc}
 use borrow.Author.Needs.{needs}
-use Rattle.feeding.proofs.Outlets.{copied}
-use Rattle.feeding.proofs.append.Statement.{statement}
-use Rattle.feeding.proofs.append.Tie as tie
+use Rattle.board_feeding.proofs.Outlets.{copied}
+use Rattle.board_feeding.proofs.append.Statement.{statement}
+use Rattle.board_feeding.proofs.append.Tie as tie
 
 abbrev Inv-loop : tie.InvT-loop
 Inv-loop codes₀ from at count done₀ codes done =

@@ -1,22 +1,22 @@
--- `feeding::feed` meets its contract. Assumes nothing.
+-- `board_feeding::feed` meets its contract. Assumes nothing.
 use mathlib.Core.Path.{_≡_, refl, sym, ap, ap₂, _∙_, subst⁻¹}
 use Prim.Native.Nat.{ℕ, _-_, _≤_, _<_}
 use native.Mathlib.Omega.{arith}
 use lib.ListN.{length, take, getD}
 use borrow.Author.Needs.{needs}
-use Rattle.wiring.specs.declared.Module.{Module}
-use Rattle.wiring.specs.declared.Module.the-variants.{Screen, Keyboard, Modem, Socket}
+use Rattle.links_wiring.specs.declared.Module.{Module}
+use Rattle.links_wiring.specs.declared.Module.the-variants.{Screen, Keyboard, Modem, Socket}
 use Rattle.links.specs.declared.Links.{Links}
 use Rattle.links.specs.declared.Outcome.{Outcome}
 use Rattle.links.specs.Calls.{fromModem}
 use Rattle.links.specs.Runs.{run}
-use Rattle.feeding.specs.declared.Fed.{Fed}
-use Rattle.feeding.specs.declared.Shares.{Shares}
-use Rattle.feeding.specs.Feeding.{fromLine, got, sharesOf, fed, gathered, Enough}
-use Rattle.feeding.proofs.Outlets.{as-many}
-use Rattle.feeding.proofs.Suffices.{run-one, room, one-fed, suffices}
-use Rattle.feeding.proofs.feed.Statement.{statement}
-use Rattle.feeding.proofs.feed.Tie as tie
+use Rattle.board_feeding.specs.declared.Fed.{Fed}
+use Rattle.board_feeding.specs.declared.Shares.{Shares}
+use Rattle.board_feeding.specs.Feeding.{fromLine, got, sharesOf, fed, gathered, Enough}
+use Rattle.board_feeding.proofs.Outlets.{as-many}
+use Rattle.board_feeding.proofs.Suffices.{run-one, room, one-fed, suffices}
+use Rattle.board_feeding.proofs.feed.Statement.{statement}
+use Rattle.board_feeding.proofs.feed.Tie as tie
 
 abbrev Inv-loop : tie.InvT-loop
 Inv-loop passed values count links₀ shares₀ i₀ links shares i =

@@ -1,7 +1,7 @@
--- `feeding::gather` meets its contract. Assumes nothing.
+-- `board_feeding::gather` meets its contract. Assumes nothing.
 use borrow.Author.Needs.{needs}
-use Rattle.feeding.proofs.gather.Statement.{statement}
-use Rattle.feeding.proofs.gather.Tie as tie
+use Rattle.board_feeding.proofs.gather.Statement.{statement}
+use Rattle.board_feeding.proofs.gather.Tie as tie
 
 append-requires : tie.Need-append-requires
 append-requires c κs = search needs

@@ -1,17 +1,17 @@
--- `feeding::share_out` meets its contract. Assumes nothing.
+-- `board_feeding::share_out` meets its contract. Assumes nothing.
 use mathlib.Core.Path.{_≡_, ap, _∙_, subst⁻¹}
 use Prim.Native.Nat.{_≤_}
 use mathlib.Core.List.{[]}
 use native.Mathlib.Omega.{arith}
 use lib.ListN.{length}
-use Rattle.sending.specs.declared.Bytes.{Bytes}
-use Rattle.sending.specs.Sending.{bytesOf, gets}
-use Rattle.feeding.specs.declared.Shares.{Shares}
-use Rattle.feeding.specs.Feeding.{sharesOf, gathered, Enough}
-use Rattle.feeding.proofs.Outlets.{taken-most, gathers}
+use Rattle.links_sending.specs.declared.Bytes.{Bytes}
+use Rattle.links_sending.specs.Sending.{bytesOf, gets}
+use Rattle.board_feeding.specs.declared.Shares.{Shares}
+use Rattle.board_feeding.specs.Feeding.{sharesOf, gathered, Enough}
+use Rattle.board_feeding.proofs.Outlets.{taken-most, gathers}
 use borrow.Author.Needs.{needs}
-use Rattle.feeding.proofs.share_out.Statement.{statement}
-use Rattle.feeding.proofs.share_out.Tie as tie
+use Rattle.board_feeding.proofs.share_out.Statement.{statement}
+use Rattle.board_feeding.proofs.share_out.Tie as tie
 
 nothing-requires : tie.Need-nothing-requires
 nothing-requires c κs = search needs

@@ -1,9 +1,9 @@
--- `front::hear` meets its contract. Assumes nothing.
-use Rattle.receiver.proofs.Asked.{asked-counted}
-use Rattle.front.specs.Hearing.{heardBy}
+-- `board_front::hear` meets its contract. Assumes nothing.
+use Rattle.line_receiver.proofs.Asked.{asked-counted}
+use Rattle.board_front.specs.Hearing.{heardBy}
 use borrow.Author.Needs.{needs}
-use Rattle.front.proofs.hear.Statement.{statement}
-use Rattle.front.proofs.hear.Tie as tie
+use Rattle.board_front.proofs.hear.Statement.{statement}
+use Rattle.board_front.proofs.hear.Tie as tie
 
 step-requires : tie.Need-step-requires
 step-requires c κs = search needs

@@ -1,23 +1,23 @@
--- `pieces::hear_piece` meets its contract. Assumes nothing.
+-- `board_pieces::hear_piece` meets its contract. Assumes nothing.
 use mathlib.Core.Path.{_≡_, sym, ap, ap₂, _∙_}
 use mathlib.Core.Bool.{Bool, true, false, _&&_}
 use mathlib.Core.List.{List}
 use Prim.Native.Nat.{ℕ}
 use borrow.Author.Needs.{needs}
 use Rattle.laws.proofs.Lists.{length-mapped}
-use Rattle.wiring.specs.declared.Module.the-variants.{Keyboard, Modem, Socket}
-use Rattle.front.specs.declared.Room.{Room}
-use Rattle.front.specs.Fitting.{roomIn, within, needed}
+use Rattle.links_wiring.specs.declared.Module.the-variants.{Keyboard, Modem, Socket}
+use Rattle.board_front.specs.declared.Room.{Room}
+use Rattle.board_front.specs.Fitting.{roomIn, within, needed}
 use Rattle.board.specs.declared.Board.{Board}
 use Rattle.board.specs.Boards.{inRange}
 use Rattle.board.specs.Runs.{InBoard}
 use Rattle.board.proofs.Ranges.{passed-in}
-use Rattle.pieces.specs.Pieces.{handed, asked, isTaken, leftIn}
-use Rattle.pieces.specs.Noted.{noted}
-use Rattle.pieces.specs.Playing.{frontOf}
-use Rattle.pieces.proofs.Single.{handed-is, asked-is, taken-is, short-is, is-taken, broken-is}
-use Rattle.pieces.proofs.hear_piece.Statement.{statement}
-use Rattle.pieces.proofs.hear_piece.Tie as tie
+use Rattle.board_pieces.specs.Pieces.{handed, asked, isTaken, leftIn}
+use Rattle.board_pieces.specs.Noted.{noted}
+use Rattle.board_pieces.specs.Playing.{frontOf}
+use Rattle.board_pieces.proofs.Single.{handed-is, asked-is, taken-is, short-is, is-taken, broken-is}
+use Rattle.board_pieces.proofs.hear_piece.Statement.{statement}
+use Rattle.board_pieces.proofs.hear_piece.Tie as tie
 
 in-range-requires : tie.Need-in-range-requires
 in-range-requires c κs = search needs

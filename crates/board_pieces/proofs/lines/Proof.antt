@@ -1,9 +1,9 @@
--- `pieces::lines` meets its contract. Assumes nothing.
+-- `board_pieces::lines` meets its contract. Assumes nothing.
 use mathlib.Core.Path.{sym}
 use borrow.Author.Needs.{needs}
 use Rattle.laws.proofs.Computed.{fails}
-use Rattle.pieces.proofs.lines.Statement.{statement}
-use Rattle.pieces.proofs.lines.Tie as tie
+use Rattle.board_pieces.proofs.lines.Statement.{statement}
+use Rattle.board_pieces.proofs.lines.Tie as tie
 
 slice-aggregate-hear-piece : tie.Need-slice-aggregate-hear-piece
 slice-aggregate-hear-piece c = search needs

@@ -1,4 +1,4 @@
--- `pieces::lines_noted` meets its contract. Assumes nothing.
+-- `board_pieces::lines_noted` meets its contract. Assumes nothing.
 use mathlib.Core.Path.{_≡_, refl, sym, ap, ap₂, _∙_}
 use mathlib.Core.Bool.{Bool, true, false, _&&_}
 use mathlib.Core.List.{List}
@@ -6,16 +6,16 @@ use Prim.Native.Nat.{ℕ, _<_}
 use native.Mathlib.Omega.{arith}
 use lib.ListN.{length}
 use borrow.Author.Needs.{needs}
-use Rattle.wiring.specs.declared.Module.the-variants.{Keyboard, Modem, Socket}
-use Rattle.front.specs.declared.Room.{Room}
-use Rattle.front.specs.Fitting.{roomIn}
+use Rattle.links_wiring.specs.declared.Module.the-variants.{Keyboard, Modem, Socket}
+use Rattle.board_front.specs.declared.Room.{Room}
+use Rattle.board_front.specs.Fitting.{roomIn}
 use Rattle.board.specs.declared.Board.{Board}
 use Rattle.board.specs.Boards.{inRange}
-use Rattle.pieces.specs.Pieces.{handed, asked, isTaken, leftIn}
-use Rattle.pieces.specs.Noted.{noted, notedOf, isNoted}
-use Rattle.pieces.proofs.Noting.{places, not-taken, too-few}
-use Rattle.pieces.proofs.lines_noted.Statement.{statement}
-use Rattle.pieces.proofs.lines_noted.Tie as tie
+use Rattle.board_pieces.specs.Pieces.{handed, asked, isTaken, leftIn}
+use Rattle.board_pieces.specs.Noted.{noted, notedOf, isNoted}
+use Rattle.board_pieces.proofs.Noting.{places, not-taken, too-few}
+use Rattle.board_pieces.proofs.lines_noted.Statement.{statement}
+use Rattle.board_pieces.proofs.lines_noted.Tie as tie
 
 in-range-requires : tie.Need-in-range-requires
 in-range-requires c κs = search needs

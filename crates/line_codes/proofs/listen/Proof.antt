@@ -1,9 +1,9 @@
--- `codes::listen` meets its contract. Assumes nothing.
+-- `line_codes::listen` meets its contract. Assumes nothing.
 use mathlib.Core.Path.{sym, _∙_}
 use borrow.Author.Tests.{eq-eqb, le-ltb, lt-ltb, ne-eqb}
 use borrow.Author.Needs.{needs}
-use Rattle.codes.proofs.listen.Statement.{statement}
-use Rattle.codes.proofs.listen.Tie as tie
+use Rattle.line_codes.proofs.listen.Statement.{statement}
+use Rattle.line_codes.proofs.listen.Tie as tie
 
 add-t6 : tie.Need-add-t6
 add-t6 c = search needs

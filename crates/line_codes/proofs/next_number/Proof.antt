@@ -1,8 +1,8 @@
--- `codes::next_number` meets its contract. Assumes nothing.
+-- `line_codes::next_number` meets its contract. Assumes nothing.
 use native.Mathlib.Omega.{arith}
 use borrow.Author.Needs.{needs}
-use Rattle.codes.proofs.next_number.Statement.{statement}
-use Rattle.codes.proofs.next_number.Tie as tie
+use Rattle.line_codes.proofs.next_number.Statement.{statement}
+use Rattle.line_codes.proofs.next_number.Tie as tie
 
 add-result : tie.Need-add-result
 add-result c = search needs

@@ -1,7 +1,7 @@
--- `codes::plain` meets its contract. Assumes nothing.
+-- `line_codes::plain` meets its contract. Assumes nothing.
 use borrow.Author.Needs.{needs}
-use Rattle.codes.proofs.plain.Statement.{statement}
-use Rattle.codes.proofs.plain.Tie as tie
+use Rattle.line_codes.proofs.plain.Statement.{statement}
+use Rattle.line_codes.proofs.plain.Tie as tie
 
 is-even-requires : tie.Need-is-even-requires
 is-even-requires c κs = search needs

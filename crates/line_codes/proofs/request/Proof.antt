@@ -1,7 +1,7 @@
--- `codes::request` meets its contract. Assumes nothing.
+-- `line_codes::request` meets its contract. Assumes nothing.
 use borrow.Author.Needs.{needs}
-use Rattle.codes.proofs.request.Statement.{statement}
-use Rattle.codes.proofs.request.Tie as tie
+use Rattle.line_codes.proofs.request.Statement.{statement}
+use Rattle.line_codes.proofs.request.Tie as tie
 
 four-requires : tie.Need-four-requires
 four-requires c κs = search needs

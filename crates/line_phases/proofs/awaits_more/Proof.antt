@@ -1,7 +1,7 @@
--- `phases::awaits_more` meets its contract. Assumes nothing.
+-- `line_phases::awaits_more` meets its contract. Assumes nothing.
 use mathlib.Core.Path.{refl}
-use Rattle.phases.proofs.awaits_more.Statement.{statement}
-use Rattle.phases.proofs.awaits_more.Tie as tie
+use Rattle.line_phases.proofs.awaits_more.Statement.{statement}
+use Rattle.line_phases.proofs.awaits_more.Tie as tie
 
 returns : tie.Need-returns
 returns c = refl

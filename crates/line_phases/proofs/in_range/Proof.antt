@@ -1,8 +1,8 @@
--- `phases::in_range` meets its contract. Assumes nothing.
+-- `line_phases::in_range` meets its contract. Assumes nothing.
 use borrow.Author.Tests.{le-ltb, lt-ltb}
 use borrow.Author.Needs.{needs}
-use Rattle.phases.proofs.in_range.Statement.{statement}
-use Rattle.phases.proofs.in_range.Tie as tie
+use Rattle.line_phases.proofs.in_range.Statement.{statement}
+use Rattle.line_phases.proofs.in_range.Tie as tie
 
 returns : tie.Need-returns
 returns c = simp (le-ltb _ _ (c .if1 .taken))

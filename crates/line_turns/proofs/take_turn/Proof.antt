@@ -1,16 +1,16 @@
--- `turns::take_turn` meets its contract. Assumes nothing.
+-- `line_turns::take_turn` meets its contract. Assumes nothing.
 use mathlib.Core.Path.{_≡_, sym, _∙_}
 use native.Mathlib.Omega.{arith}
 use borrow.Author.Needs.{needs}
-use Rattle.turns.proofs.Held.{goes-on, ends}
-use Rattle.turns.proofs.take_turn.Statement.{statement}
-use Rattle.turns.proofs.take_turn.Tie as tie
-use Rattle.turns.proofs.take_turn.Reads as reads
-use Rattle.turns.proofs.take_turn.Lts as lts
-use Rattle.receiver.proofs.Receiver.step.Reads as step-reads
-use Rattle.turns.proofs.holding.hold.Reads as hold-reads
-use Rattle.turns.proofs.notes.note_on.Reads as note-on-reads
-use Rattle.turns.proofs.only_held.Reads as only-held-reads
+use Rattle.line_turns.proofs.Held.{goes-on, ends}
+use Rattle.line_turns.proofs.take_turn.Statement.{statement}
+use Rattle.line_turns.proofs.take_turn.Tie as tie
+use Rattle.line_turns.proofs.take_turn.Reads as reads
+use Rattle.line_turns.proofs.take_turn.Lts as lts
+use Rattle.line_receiver.proofs.Receiver.step.Reads as step-reads
+use Rattle.line_turns.proofs.holding.hold.Reads as hold-reads
+use Rattle.line_turns.proofs.notes.note_on.Reads as note-on-reads
+use Rattle.line_turns.proofs.only_held.Reads as only-held-reads
 
 -- src/lib.rt:53:9
 hold-requires : tie.Need-hold-requires

@@ -1,8 +1,8 @@
--- `linking::link` meets its contract. Assumes nothing.
-use Rattle.linking.specs.Linking.{linked}
+-- `links_changes::link` meets its contract. Assumes nothing.
+use Rattle.links_changes.specs.Linking.{linked}
 use borrow.Author.Needs.{needs}
-use Rattle.linking.proofs.link.Statement.{statement}
-use Rattle.linking.proofs.link.Tie as tie
+use Rattle.links_changes.proofs.link.Statement.{statement}
+use Rattle.links_changes.proofs.link.Tie as tie
 
 row-requires : tie.Need-row-requires
 row-requires c κs = search needs

@@ -1,7 +1,7 @@
--- `linking::mark` meets its contract. Assumes nothing.
+-- `links_changes::mark` meets its contract. Assumes nothing.
 use borrow.Author.Needs.{needs}
-use Rattle.linking.proofs.mark.Statement.{statement}
-use Rattle.linking.proofs.mark.Tie as tie
+use Rattle.links_changes.proofs.mark.Statement.{statement}
+use Rattle.links_changes.proofs.mark.Tie as tie
 
 enum-told : tie.Need-enum-told
 enum-told c = search needs

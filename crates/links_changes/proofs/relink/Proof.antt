@@ -1,7 +1,7 @@
--- `linking::relink` meets its contract. Assumes nothing.
+-- `links_changes::relink` meets its contract. Assumes nothing.
 use borrow.Author.Needs.{needs}
-use Rattle.linking.proofs.relink.Statement.{statement}
-use Rattle.linking.proofs.relink.Tie as tie
+use Rattle.links_changes.proofs.relink.Statement.{statement}
+use Rattle.links_changes.proofs.relink.Tie as tie
 
 enum-told : tie.Need-enum-told
 enum-told c = search needs

@@ -1,7 +1,7 @@
--- `linking::replace` meets its contract. Assumes nothing.
+-- `links_changes::replace` meets its contract. Assumes nothing.
 use borrow.Author.Needs.{needs}
-use Rattle.linking.proofs.replace.Statement.{statement}
-use Rattle.linking.proofs.replace.Tie as tie
+use Rattle.links_changes.proofs.replace.Statement.{statement}
+use Rattle.links_changes.proofs.replace.Tie as tie
 
 enum-told : tie.Need-enum-told
 enum-told c = search needs

@@ -1,7 +1,7 @@
--- `linking::same` meets its contract. Assumes nothing.
+-- `links_changes::same` meets its contract. Assumes nothing.
 use borrow.Author.Needs.{needs}
-use Rattle.linking.proofs.same.Statement.{statement}
-use Rattle.linking.proofs.same.Tie as tie
+use Rattle.links_changes.proofs.same.Statement.{statement}
+use Rattle.links_changes.proofs.same.Tie as tie
 
 place-requires : tie.Need-place-requires
 place-requires c κs = search needs

@@ -1,7 +1,7 @@
--- `commands::ask` meets its contract. Assumes nothing.
+-- `links_commands::ask` meets its contract. Assumes nothing.
 use borrow.Author.Needs.{needs}
-use Rattle.commands.proofs.ask.Statement.{statement}
-use Rattle.commands.proofs.ask.Tie as tie
+use Rattle.links_commands.proofs.ask.Statement.{statement}
+use Rattle.links_commands.proofs.ask.Tie as tie
 
 enum-known-receiver : tie.Need-enum-known-receiver
 enum-known-receiver c = search needs

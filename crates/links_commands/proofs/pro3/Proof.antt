@@ -1,8 +1,8 @@
--- `commands::pro3` meets its contract. Assumes nothing.
+-- `links_commands::pro3` meets its contract. Assumes nothing.
 use borrow.Author.Tests.{eq-eqb, ne-eqb}
 use borrow.Author.Needs.{needs}
-use Rattle.commands.proofs.pro3.Statement.{statement}
-use Rattle.commands.proofs.pro3.Tie as tie
+use Rattle.links_commands.proofs.pro3.Statement.{statement}
+use Rattle.links_commands.proofs.pro3.Tie as tie
 
 receiver-requires : tie.Need-receiver-requires
 receiver-requires c κs = search needs

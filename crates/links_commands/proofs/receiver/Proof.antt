@@ -1,7 +1,7 @@
--- `commands::receiver` meets its contract. Assumes nothing.
+-- `links_commands::receiver` meets its contract. Assumes nothing.
 use borrow.Author.Tests.{ne-eqb}
-use Rattle.commands.proofs.receiver.Statement.{statement}
-use Rattle.commands.proofs.receiver.Tie as tie
+use Rattle.links_commands.proofs.receiver.Statement.{statement}
+use Rattle.links_commands.proofs.receiver.Tie as tie
 
 returns : tie.Need-returns
 returns c = simp (c .match .keys1)

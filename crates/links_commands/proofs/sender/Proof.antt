@@ -1,7 +1,7 @@
--- `commands::sender` meets its contract. Assumes nothing.
+-- `links_commands::sender` meets its contract. Assumes nothing.
 use borrow.Author.Tests.{ne-eqb}
-use Rattle.commands.proofs.sender.Statement.{statement}
-use Rattle.commands.proofs.sender.Tie as tie
+use Rattle.links_commands.proofs.sender.Statement.{statement}
+use Rattle.links_commands.proofs.sender.Tie as tie
 
 returns : tie.Need-returns
 returns c = simp (c .match .keys1)

@@ -1,8 +1,8 @@
--- `hearing::begin` meets its contract. Assumes nothing.
+-- `links_hearing::begin` meets its contract. Assumes nothing.
 use borrow.Author.Tests.{eq-eqb, ne-eqb}
 use borrow.Author.Needs.{needs}
-use Rattle.hearing.proofs.begin.Statement.{statement}
-use Rattle.hearing.proofs.begin.Tie as tie
+use Rattle.links_hearing.proofs.begin.Statement.{statement}
+use Rattle.links_hearing.proofs.begin.Tie as tie
 
 hold-requires : tie.Need-hold-requires
 hold-requires c κs = search needs

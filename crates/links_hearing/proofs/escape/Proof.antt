@@ -1,8 +1,8 @@
--- `hearing::escape` meets its contract. Assumes nothing.
+-- `links_hearing::escape` meets its contract. Assumes nothing.
 use borrow.Author.Tests.{ne-eqb}
 use borrow.Author.Needs.{needs}
-use Rattle.hearing.proofs.escape.Statement.{statement}
-use Rattle.hearing.proofs.escape.Tie as tie
+use Rattle.links_hearing.proofs.escape.Statement.{statement}
+use Rattle.links_hearing.proofs.escape.Tie as tie
 
 hold-requires : tie.Need-hold-requires
 hold-requires c κs = search needs

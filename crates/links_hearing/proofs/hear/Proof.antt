@@ -1,8 +1,8 @@
--- `hearing::hear` meets its contract. Assumes nothing.
-use Rattle.hearing.specs.Hearing.{heard}
+-- `links_hearing::hear` meets its contract. Assumes nothing.
+use Rattle.links_hearing.specs.Hearing.{heard}
 use borrow.Author.Needs.{needs}
-use Rattle.hearing.proofs.hear.Statement.{statement}
-use Rattle.hearing.proofs.hear.Tie as tie
+use Rattle.links_hearing.proofs.hear.Statement.{statement}
+use Rattle.links_hearing.proofs.hear.Tie as tie
 
 enum-told : tie.Need-enum-told
 enum-told c = search needs

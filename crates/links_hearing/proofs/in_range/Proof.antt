@@ -1,9 +1,9 @@
--- `hearing::in_range` meets its contract. Assumes nothing.
+-- `links_hearing::in_range` meets its contract. Assumes nothing.
 use borrow.Author.Tests.{le-leb, lt-leb}
-use Rattle.hearing.specs.Hearing.{inRange}
+use Rattle.links_hearing.specs.Hearing.{inRange}
 use borrow.Author.Needs.{needs}
-use Rattle.hearing.proofs.in_range.Statement.{statement}
-use Rattle.hearing.proofs.in_range.Tie as tie
+use Rattle.links_hearing.proofs.in_range.Statement.{statement}
+use Rattle.links_hearing.proofs.in_range.Tie as tie
 
 enum-told : tie.Need-enum-told
 enum-told c = search needs

@@ -1,7 +1,7 @@
--- `replies::column` meets its contract. Assumes nothing.
+-- `links_replies::column` meets its contract. Assumes nothing.
 use borrow.Author.Needs.{needs}
-use Rattle.replies.proofs.column.Statement.{statement}
-use Rattle.replies.proofs.column.Tie as tie
+use Rattle.links_replies.proofs.column.Statement.{statement}
+use Rattle.links_replies.proofs.column.Tie as tie
 
 enum-told : tie.Need-enum-told
 enum-told c = search needs

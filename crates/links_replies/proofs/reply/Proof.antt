@@ -1,8 +1,8 @@
--- `replies::reply` meets its contract. Assumes nothing.
-use Rattle.replies.specs.Replies.{statusOf, replyOf}
+-- `links_replies::reply` meets its contract. Assumes nothing.
+use Rattle.links_replies.specs.Replies.{statusOf, replyOf}
 use borrow.Author.Needs.{needs}
-use Rattle.replies.proofs.reply.Statement.{statement}
-use Rattle.replies.proofs.reply.Tie as tie
+use Rattle.links_replies.proofs.reply.Statement.{statement}
+use Rattle.links_replies.proofs.reply.Tie as tie
 
 code-requires : tie.Need-code-requires
 code-requires c κs = search needs

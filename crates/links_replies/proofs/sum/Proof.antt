@@ -1,8 +1,8 @@
--- `replies::sum` meets its contract. Assumes nothing.
+-- `links_replies::sum` meets its contract. Assumes nothing.
 use native.Mathlib.Omega.{arith}
 use borrow.Author.Needs.{needs}
-use Rattle.replies.proofs.sum.Statement.{statement}
-use Rattle.replies.proofs.sum.Tie as tie
+use Rattle.links_replies.proofs.sum.Statement.{statement}
+use Rattle.links_replies.proofs.sum.Tie as tie
 
 weigh-requires : tie.Need-weigh-requires
 weigh-requires c κs = search needs

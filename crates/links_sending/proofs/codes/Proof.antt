@@ -1,7 +1,7 @@
--- `sending::codes` meets its contract. Assumes nothing.
+-- `links_sending::codes` meets its contract. Assumes nothing.
 use borrow.Author.Needs.{needs}
-use Rattle.sending.proofs.codes.Statement.{statement}
-use Rattle.sending.proofs.codes.Tie as tie
+use Rattle.links_sending.proofs.codes.Statement.{statement}
+use Rattle.links_sending.proofs.codes.Tie as tie
 
 enum-told : tie.Need-enum-told
 enum-told c = search needs

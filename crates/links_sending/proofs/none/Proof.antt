@@ -1,7 +1,7 @@
--- `sending::none` meets its contract. Assumes nothing.
+-- `links_sending::none` meets its contract. Assumes nothing.
 use mathlib.Core.Path.{refl}
-use Rattle.sending.proofs.none.Statement.{statement}
-use Rattle.sending.proofs.none.Tie as tie
+use Rattle.links_sending.proofs.none.Statement.{statement}
+use Rattle.links_sending.proofs.none.Tie as tie
 
 returns : tie.Need-returns
 returns c = refl

@@ -1,8 +1,8 @@
--- `sending::obey` meets its contract. Assumes nothing.
-use Rattle.sending.specs.Sending.{obeyed}
+-- `links_sending::obey` meets its contract. Assumes nothing.
+use Rattle.links_sending.specs.Sending.{obeyed}
 use borrow.Author.Needs.{needs}
-use Rattle.sending.proofs.obey.Statement.{statement}
-use Rattle.sending.proofs.obey.Tie as tie
+use Rattle.links_sending.proofs.obey.Statement.{statement}
+use Rattle.links_sending.proofs.obey.Tie as tie
 
 relink-requires : tie.Need-relink-requires
 relink-requires c κs = search needs

@@ -1,7 +1,7 @@
--- `sending::only` meets its contract. Assumes nothing.
+-- `links_sending::only` meets its contract. Assumes nothing.
 use borrow.Author.Needs.{needs}
-use Rattle.sending.proofs.only.Statement.{statement}
-use Rattle.sending.proofs.only.Tie as tie
+use Rattle.links_sending.proofs.only.Statement.{statement}
+use Rattle.links_sending.proofs.only.Tie as tie
 
 nowhere-requires : tie.Need-nowhere-requires
 nowhere-requires c κs = search needs

@@ -1,7 +1,7 @@
--- `sending::receivers` meets its contract. Assumes nothing.
+-- `links_sending::receivers` meets its contract. Assumes nothing.
 use borrow.Author.Needs.{needs}
-use Rattle.sending.proofs.receivers.Statement.{statement}
-use Rattle.sending.proofs.receivers.Tie as tie
+use Rattle.links_sending.proofs.receivers.Statement.{statement}
+use Rattle.links_sending.proofs.receivers.Tie as tie
 
 row-requires : tie.Need-row-requires
 row-requires c κs = search needs

@@ -1,7 +1,7 @@
--- `sending::silence` meets its contract. Assumes nothing.
+-- `links_sending::silence` meets its contract. Assumes nothing.
 use borrow.Author.Needs.{needs}
-use Rattle.sending.proofs.silence.Statement.{statement}
-use Rattle.sending.proofs.silence.Tie as tie
+use Rattle.links_sending.proofs.silence.Statement.{statement}
+use Rattle.links_sending.proofs.silence.Tie as tie
 
 nowhere-requires : tie.Need-nowhere-requires
 nowhere-requires c κs = search needs

@@ -1,7 +1,7 @@
--- `sending::to` meets its contract. Assumes nothing.
+-- `links_sending::to` meets its contract. Assumes nothing.
 use borrow.Author.Needs.{needs}
-use Rattle.sending.proofs.to.Statement.{statement}
-use Rattle.sending.proofs.to.Tie as tie
+use Rattle.links_sending.proofs.to.Statement.{statement}
+use Rattle.links_sending.proofs.to.Tie as tie
 
 given-requires : tie.Need-given-requires
 given-requires c κs = search needs

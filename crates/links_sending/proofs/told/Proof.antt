@@ -1,8 +1,8 @@
--- `sending::told` meets its contract. Assumes nothing.
-use Rattle.replies.specs.Replies.{replyOf}
+-- `links_sending::told` meets its contract. Assumes nothing.
+use Rattle.links_replies.specs.Replies.{replyOf}
 use borrow.Author.Needs.{needs}
-use Rattle.sending.proofs.told.Statement.{statement}
-use Rattle.sending.proofs.told.Tie as tie
+use Rattle.links_sending.proofs.told.Statement.{statement}
+use Rattle.links_sending.proofs.told.Tie as tie
 
 reply-requires : tie.Need-reply-requires
 reply-requires c κs = search needs

@@ -1,7 +1,7 @@
--- `wiring::local_table` meets its contract. Assumes nothing.
+-- `links_wiring::local_table` meets its contract. Assumes nothing.
 use mathlib.Core.Path.{refl}
-use Rattle.wiring.proofs.local_table.Statement.{statement}
-use Rattle.wiring.proofs.local_table.Tie as tie
+use Rattle.links_wiring.proofs.local_table.Statement.{statement}
+use Rattle.links_wiring.proofs.local_table.Tie as tie
 
 returns : tie.Need-returns
 returns c = refl

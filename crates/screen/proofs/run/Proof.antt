@@ -4,11 +4,11 @@ use mathlib.Core.Bool.{false}
 use Prim.Native.Nat.{_≤_}
 use lib.ListN.{length}
 use borrow.Author.Needs.{needs}
-use Rattle.answers.proofs.Given.{taken-only}
+use Rattle.screen_answers.proofs.Given.{taken-only}
 use Rattle.values.specs.Large.{firstLarge}
 use Rattle.values.proofs.Found.{all-small}
-use Rattle.page.specs.Ranges.{broken}
-use Rattle.page.proofs.Stays.{whole}
+use Rattle.screen_page.specs.Ranges.{broken}
+use Rattle.screen_page.proofs.Stays.{whole}
 use Rattle.screen.specs.Calls.{answered, ran}
 use Rattle.screen.proofs.Answers.{ran-refused}
 use Rattle.screen.proofs.run.Statement.{statement}

@@ -6,15 +6,15 @@ use mathlib.Core.List.{[], _∷_}
 use Prim.Native.Nat.{_≤_}
 use native.Mathlib.Omega.{arith}
 use borrow.Author.Needs.{needs}
-use Rattle.answers.proofs.Given.{taken-only}
+use Rattle.screen_answers.proofs.Given.{taken-only}
 use Rattle.values.proofs.Found.{all-small, values-head}
-use Rattle.pen.specs.Pens.{InPen}
-use Rattle.pen.proofs.Stays.{pen-true}
-use Rattle.planning.specs.Planning.{planned}
-use Rattle.planning.proofs.Stays.{planned-in}
-use Rattle.planning.proofs.Plans.{plan-tested}
-use Rattle.page.specs.Ranges.{broken}
-use Rattle.page.proofs.Stays.{whole, true-pen-in}
+use Rattle.screen_pen.specs.Pens.{InPen}
+use Rattle.screen_pen.proofs.Stays.{pen-true}
+use Rattle.screen_planning.specs.Planning.{planned}
+use Rattle.screen_planning.proofs.Stays.{planned-in}
+use Rattle.screen_planning.proofs.Plans.{plan-tested}
+use Rattle.screen_page.specs.Ranges.{broken}
+use Rattle.screen_page.proofs.Stays.{whole, true-pen-in}
 use Rattle.screen.specs.Screens.{advanced}
 use Rattle.screen.specs.Calls.{answered, stepped}
 use Rattle.screen.proofs.Answers.{step-refused}

@@ -1,8 +1,8 @@
--- `addresses::locate` meets its contract. Assumes nothing.
+-- `screen_addresses::locate` meets its contract. Assumes nothing.
 use borrow.Author.Tests.{le-leb, lt-leb}
 use borrow.Author.Needs.{needs}
-use Rattle.addresses.proofs.locate.Statement.{statement}
-use Rattle.addresses.proofs.locate.Tie as tie
+use Rattle.screen_addresses.proofs.locate.Statement.{statement}
+use Rattle.screen_addresses.proofs.locate.Tie as tie
 
 returns : tie.Need-returns
 returns c = simp (lt-leb _ _ (c .if1 .taken))

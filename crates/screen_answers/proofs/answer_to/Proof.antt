@@ -1,7 +1,7 @@
--- `answers::answer_to` meets its contract. Assumes nothing.
+-- `screen_answers::answer_to` meets its contract. Assumes nothing.
 use borrow.Author.Tests.{le-ltb, lt-ltb}
-use Rattle.answers.proofs.answer_to.Statement.{statement}
-use Rattle.answers.proofs.answer_to.Tie as tie
+use Rattle.screen_answers.proofs.answer_to.Statement.{statement}
+use Rattle.screen_answers.proofs.answer_to.Tie as tie
 
 returns : tie.Need-returns
 returns c = simp (c .if1 .taken)

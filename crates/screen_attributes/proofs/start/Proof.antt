@@ -1,7 +1,7 @@
--- `attributes::start` meets its contract. Assumes nothing.
+-- `screen_attributes::start` meets its contract. Assumes nothing.
 use mathlib.Core.Path.{refl}
-use Rattle.attributes.proofs.start.Statement.{statement}
-use Rattle.attributes.proofs.start.Tie as tie
+use Rattle.screen_attributes.proofs.start.Statement.{statement}
+use Rattle.screen_attributes.proofs.start.Tie as tie
 
 returns : tie.Need-returns
 returns c = refl

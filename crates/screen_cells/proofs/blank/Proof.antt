@@ -1,7 +1,7 @@
--- `cells::blank` meets its contract. Assumes nothing.
+-- `screen_cells::blank` meets its contract. Assumes nothing.
 use mathlib.Core.Path.{refl}
-use Rattle.cells.proofs.blank.Statement.{statement}
-use Rattle.cells.proofs.blank.Tie as tie
+use Rattle.screen_cells.proofs.blank.Statement.{statement}
+use Rattle.screen_cells.proofs.blank.Tie as tie
 
 returns : tie.Need-returns
 returns c = refl

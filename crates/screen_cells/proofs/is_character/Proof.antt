@@ -1,8 +1,8 @@
--- `cells::is_character` meets its contract. Assumes nothing.
+-- `screen_cells::is_character` meets its contract. Assumes nothing.
 use borrow.Author.Tests.{le-leb, lt-leb}
-use Rattle.cells.specs.Within.{goodCharacter}
-use Rattle.cells.proofs.is_character.Statement.{statement}
-use Rattle.cells.proofs.is_character.Tie as tie
+use Rattle.screen_cells.specs.Within.{goodCharacter}
+use Rattle.screen_cells.proofs.is_character.Statement.{statement}
+use Rattle.screen_cells.proofs.is_character.Tie as tie
 
 returns : tie.Need-returns
 unfolding goodCharacter

@@ -1,8 +1,8 @@
--- `pairs::column_five` meets its contract. Assumes nothing.
+-- `screen_escapes::column_five` meets its contract. Assumes nothing.
 use borrow.Author.Tests.{eq-eqb, le-ltb, lt-ltb, ne-eqb}
 use borrow.Author.Needs.{needs}
-use Rattle.pairs.proofs.column_five.Statement.{statement}
-use Rattle.pairs.proofs.column_five.Tie as tie
+use Rattle.screen_escapes.proofs.column_five.Statement.{statement}
+use Rattle.screen_escapes.proofs.column_five.Tie as tie
 
 waiting-for-requires : tie.Need-waiting-for-requires
 waiting-for-requires c κs = search needs

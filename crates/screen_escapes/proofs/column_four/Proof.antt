@@ -1,7 +1,7 @@
--- `pairs::column_four` meets its contract. Assumes nothing.
+-- `screen_escapes::column_four` meets its contract. Assumes nothing.
 use borrow.Author.Tests.{le-ltb, lt-ltb, ne-eqb}
-use Rattle.pairs.proofs.column_four.Statement.{statement}
-use Rattle.pairs.proofs.column_four.Tie as tie
+use Rattle.screen_escapes.proofs.column_four.Statement.{statement}
+use Rattle.screen_escapes.proofs.column_four.Tie as tie
 
 returns : tie.Need-returns
 returns c = simp (lt-ltb _ _ (c .if1 .taken))

@@ -1,8 +1,8 @@
--- `pairs::pair` meets its contract. Assumes nothing.
+-- `screen_escapes::pair` meets its contract. Assumes nothing.
 use borrow.Author.Tests.{ne-eqb}
 use borrow.Author.Needs.{needs}
-use Rattle.pairs.proofs.pair.Statement.{statement}
-use Rattle.pairs.proofs.pair.Tie as tie
+use Rattle.screen_escapes.proofs.pair.Statement.{statement}
+use Rattle.screen_escapes.proofs.pair.Tie as tie
 
 column-four-requires : tie.Need-column-four-requires
 column-four-requires c κs = search needs

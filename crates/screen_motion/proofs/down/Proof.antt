@@ -1,7 +1,7 @@
--- `motion::down` meets its contract. Assumes nothing.
+-- `screen_motion::down` meets its contract. Assumes nothing.
 use borrow.Author.Needs.{needs}
-use Rattle.motion.proofs.down.Statement.{statement}
-use Rattle.motion.proofs.down.Tie as tie
+use Rattle.screen_motion.proofs.down.Statement.{statement}
+use Rattle.screen_motion.proofs.down.Tie as tie
 
 row-below-requires : tie.Need-row-below-requires
 row-below-requires c κs = search needs

@@ -1,7 +1,7 @@
--- `motion::first` meets its contract. Assumes nothing.
+-- `screen_motion::first` meets its contract. Assumes nothing.
 use mathlib.Core.Path.{refl}
-use Rattle.motion.proofs.first.Statement.{statement}
-use Rattle.motion.proofs.first.Tie as tie
+use Rattle.screen_motion.proofs.first.Statement.{statement}
+use Rattle.screen_motion.proofs.first.Tie as tie
 
 returns : tie.Need-returns
 returns c = refl

@@ -1,8 +1,8 @@
--- `motion::left` meets its contract. Assumes nothing.
+-- `screen_motion::left` meets its contract. Assumes nothing.
 use borrow.Author.Tests.{eq-eqb, le-ltb, lt-ltb, ne-eqb}
 use borrow.Author.Needs.{needs}
-use Rattle.motion.proofs.left.Statement.{statement}
-use Rattle.motion.proofs.left.Tie as tie
+use Rattle.screen_motion.proofs.left.Statement.{statement}
+use Rattle.screen_motion.proofs.left.Tie as tie
 
 sub-t3 : tie.Need-sub-t3
 sub-t3 c = search needs

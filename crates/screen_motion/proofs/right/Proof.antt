@@ -1,8 +1,8 @@
--- `motion::right` meets its contract. Assumes nothing.
+-- `screen_motion::right` meets its contract. Assumes nothing.
 use borrow.Author.Tests.{eq-eqb, le-ltb, lt-ltb, ne-eqb}
 use borrow.Author.Needs.{needs}
-use Rattle.motion.proofs.right.Statement.{statement}
-use Rattle.motion.proofs.right.Tie as tie
+use Rattle.screen_motion.proofs.right.Statement.{statement}
+use Rattle.screen_motion.proofs.right.Tie as tie
 
 add-t4 : tie.Need-add-t4
 add-t4 c = search needs

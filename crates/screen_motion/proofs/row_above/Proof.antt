@@ -1,8 +1,8 @@
--- `motion::row_above` meets its contract. Assumes nothing.
+-- `screen_motion::row_above` meets its contract. Assumes nothing.
 use borrow.Author.Tests.{le-ltb, lt-ltb}
 use borrow.Author.Needs.{needs}
-use Rattle.motion.proofs.row_above.Statement.{statement}
-use Rattle.motion.proofs.row_above.Tie as tie
+use Rattle.screen_motion.proofs.row_above.Statement.{statement}
+use Rattle.screen_motion.proofs.row_above.Tie as tie
 
 sub-result : tie.Need-sub-result
 sub-result c = search needs

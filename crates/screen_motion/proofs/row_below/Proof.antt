@@ -1,8 +1,8 @@
--- `motion::row_below` meets its contract. Assumes nothing.
+-- `screen_motion::row_below` meets its contract. Assumes nothing.
 use borrow.Author.Tests.{le-ltb, lt-ltb}
 use borrow.Author.Needs.{needs}
-use Rattle.motion.proofs.row_below.Statement.{statement}
-use Rattle.motion.proofs.row_below.Tie as tie
+use Rattle.screen_motion.proofs.row_below.Statement.{statement}
+use Rattle.screen_motion.proofs.row_below.Tie as tie
 
 add-result : tie.Need-add-result
 add-result c = search needs

@@ -1,8 +1,8 @@
--- `motion::up` meets its contract. Assumes nothing.
+-- `screen_motion::up` meets its contract. Assumes nothing.
 use borrow.Author.Tests.{le-ltb, lt-ltb}
 use borrow.Author.Needs.{needs}
-use Rattle.motion.proofs.up.Statement.{statement}
-use Rattle.motion.proofs.up.Tie as tie
+use Rattle.screen_motion.proofs.up.Statement.{statement}
+use Rattle.screen_motion.proofs.up.Tie as tie
 
 row-above-requires : tie.Need-row-above-requires
 row-above-requires c κs = search needs

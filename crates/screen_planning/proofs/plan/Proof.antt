@@ -1,8 +1,8 @@
--- `planning::plan` meets its contract. Assumes nothing.
+-- `screen_planning::plan` meets its contract. Assumes nothing.
 use borrow.Author.Tests.{le-leb, le-ltb, lt-ltb}
 use borrow.Author.Needs.{needs}
-use Rattle.planning.proofs.plan.Statement.{statement}
-use Rattle.planning.proofs.plan.Tie as tie
+use Rattle.screen_planning.proofs.plan.Statement.{statement}
+use Rattle.screen_planning.proofs.plan.Tie as tie
 
 keep-cells-requires : tie.Need-keep-cells-requires
 keep-cells-requires c κs = search needs

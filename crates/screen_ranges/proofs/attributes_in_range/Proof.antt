@@ -1,8 +1,8 @@
--- `ranges::attributes_in_range` meets its contract. Assumes nothing.
+-- `screen_ranges::attributes_in_range` meets its contract. Assumes nothing.
 use borrow.Author.Tests.{le-leb, le-ltb, lt-leb}
 use borrow.Author.Needs.{needs}
-use Rattle.ranges.proofs.attributes_in_range.Statement.{statement}
-use Rattle.ranges.proofs.attributes_in_range.Tie as tie
+use Rattle.screen_ranges.proofs.attributes_in_range.Statement.{statement}
+use Rattle.screen_ranges.proofs.attributes_in_range.Tie as tie
 
 returns : tie.Need-returns
 returns c = simp (lt-leb _ _ (c .if1 .taken))

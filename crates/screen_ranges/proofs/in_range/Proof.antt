@@ -1,8 +1,8 @@
--- `ranges::in_range` meets its contract. Assumes nothing.
+-- `screen_ranges::in_range` meets its contract. Assumes nothing.
 use borrow.Author.Needs.{needs}
-use Rattle.pen.specs.Pens.{inRange}
-use Rattle.ranges.proofs.in_range.Statement.{statement}
-use Rattle.ranges.proofs.in_range.Tie as tie
+use Rattle.screen_pen.specs.Pens.{inRange}
+use Rattle.screen_ranges.proofs.in_range.Statement.{statement}
+use Rattle.screen_ranges.proofs.in_range.Tie as tie
 
 spot-in-range-requires : tie.Need-spot-in-range-requires
 spot-in-range-requires c κs = search needs

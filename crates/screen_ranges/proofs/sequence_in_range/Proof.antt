@@ -1,8 +1,8 @@
--- `ranges::sequence_in_range` meets its contract. Assumes nothing.
+-- `screen_ranges::sequence_in_range` meets its contract. Assumes nothing.
 use borrow.Author.Tests.{le-leb, lt-leb}
 use borrow.Author.Needs.{needs}
-use Rattle.ranges.proofs.sequence_in_range.Statement.{statement}
-use Rattle.ranges.proofs.sequence_in_range.Tie as tie
+use Rattle.screen_ranges.proofs.sequence_in_range.Statement.{statement}
+use Rattle.screen_ranges.proofs.sequence_in_range.Tie as tie
 
 enum-told : tie.Need-enum-told
 enum-told c = search needs

@@ -1,8 +1,8 @@
--- `ranges::spot_in_range` meets its contract. Assumes nothing.
+-- `screen_ranges::spot_in_range` meets its contract. Assumes nothing.
 use borrow.Author.Needs.{needs}
-use Rattle.pen.specs.Pens.{goodSpot}
-use Rattle.ranges.proofs.spot_in_range.Statement.{statement}
-use Rattle.ranges.proofs.spot_in_range.Tie as tie
+use Rattle.screen_pen.specs.Pens.{goodSpot}
+use Rattle.screen_ranges.proofs.spot_in_range.Statement.{statement}
+use Rattle.screen_ranges.proofs.spot_in_range.Tie as tie
 
 on-screen-requires : tie.Need-on-screen-requires
 on-screen-requires c κs = search needs

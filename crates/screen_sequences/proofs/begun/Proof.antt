@@ -1,7 +1,7 @@
--- `sequences::begun` meets its contract. Assumes nothing.
+-- `screen_sequences::begun` meets its contract. Assumes nothing.
 use borrow.Author.Tests.{ne-eqb}
-use Rattle.sequences.proofs.begun.Statement.{statement}
-use Rattle.sequences.proofs.begun.Tie as tie
+use Rattle.screen_sequences.proofs.begun.Statement.{statement}
+use Rattle.screen_sequences.proofs.begun.Tie as tie
 
 returns : tie.Need-returns
 returns c = simp (c .match .keys1)

@@ -1,7 +1,7 @@
--- `sequences::follow` meets its contract. Assumes nothing.
+-- `screen_sequences::follow` meets its contract. Assumes nothing.
 use borrow.Author.Needs.{needs}
-use Rattle.sequences.proofs.follow.Statement.{statement}
-use Rattle.sequences.proofs.follow.Tie as tie
+use Rattle.screen_sequences.proofs.follow.Statement.{statement}
+use Rattle.screen_sequences.proofs.follow.Tie as tie
 
 enum-told : tie.Need-enum-told
 enum-told c = search needs

@@ -1,8 +1,8 @@
--- `sequences::hear` meets its contract. Assumes nothing.
+-- `screen_sequences::hear` meets its contract. Assumes nothing.
 use borrow.Author.Tests.{eq-eqb, le-ltb, lt-ltb, ne-eqb}
 use borrow.Author.Needs.{needs}
-use Rattle.sequences.proofs.hear.Statement.{statement}
-use Rattle.sequences.proofs.hear.Tie as tie
+use Rattle.screen_sequences.proofs.hear.Statement.{statement}
+use Rattle.screen_sequences.proofs.hear.Tie as tie
 
 returns : tie.Need-returns
 returns c = simp (eq-eqb _ _ (c .if1 .taken))

@@ -1,7 +1,7 @@
--- `sequences::ordered` meets its contract. Assumes nothing.
+-- `screen_sequences::ordered` meets its contract. Assumes nothing.
 use borrow.Author.Tests.{ne-eqb}
-use Rattle.sequences.proofs.ordered.Statement.{statement}
-use Rattle.sequences.proofs.ordered.Tie as tie
+use Rattle.screen_sequences.proofs.ordered.Statement.{statement}
+use Rattle.screen_sequences.proofs.ordered.Tie as tie
 
 returns : tie.Need-returns
 returns c = simp (c .match .keys1)

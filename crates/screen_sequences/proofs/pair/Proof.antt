@@ -1,7 +1,7 @@
--- `sequences::pair` meets its contract. Assumes nothing.
+-- `screen_sequences::pair` meets its contract. Assumes nothing.
 use borrow.Author.Tests.{eq-eqb, le-ltb, lt-ltb, ne-eqb}
-use Rattle.sequences.proofs.pair.Statement.{statement}
-use Rattle.sequences.proofs.pair.Tie as tie
+use Rattle.screen_sequences.proofs.pair.Statement.{statement}
+use Rattle.screen_sequences.proofs.pair.Tie as tie
 
 returns : tie.Need-returns
 returns c = simp (lt-ltb _ _ (c .if1 .taken))

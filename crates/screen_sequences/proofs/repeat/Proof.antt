@@ -1,12 +1,12 @@
--- `sequences::repeat` meets its contract. Assumes nothing.
+-- `screen_sequences::repeat` meets its contract. Assumes nothing.
 use mathlib.Core.Path.{sym, ap}
 use mathlib.Core.Bool.{Bool, cond}
 use Prim.Native.Nat.{_-_}
 use borrow.Author.Tests.{lt-ltb, le-ltb}
-use Rattle.sequences.specs.declared.Order.the-variants.{Skip, Again}
-use Rattle.sequences.specs.Hearing.{does, noTimes}
-use Rattle.sequences.proofs.repeat.Statement.{statement}
-use Rattle.sequences.proofs.repeat.Tie as tie
+use Rattle.screen_sequences.specs.declared.Order.the-variants.{Skip, Again}
+use Rattle.screen_sequences.specs.Hearing.{does, noTimes}
+use Rattle.screen_sequences.proofs.repeat.Statement.{statement}
+use Rattle.screen_sequences.proofs.repeat.Tie as tie
 
 returns : tie.Need-returns
 returns c =

@@ -1,7 +1,7 @@
--- `sequences::second` meets its contract. Assumes nothing.
+-- `screen_sequences::second` meets its contract. Assumes nothing.
 use borrow.Author.Tests.{eq-eqb, ne-eqb}
-use Rattle.sequences.proofs.second.Statement.{statement}
-use Rattle.sequences.proofs.second.Tie as tie
+use Rattle.screen_sequences.proofs.second.Statement.{statement}
+use Rattle.screen_sequences.proofs.second.Tie as tie
 
 returns : tie.Need-returns
 returns c = simp (eq-eqb _ _ (c .if1 .taken))

@@ -1,7 +1,7 @@
--- `sequences::skip` meets its contract. Assumes nothing.
+-- `screen_sequences::skip` meets its contract. Assumes nothing.
 use borrow.Author.Tests.{le-leb, lt-leb}
-use Rattle.sequences.proofs.skip.Statement.{statement}
-use Rattle.sequences.proofs.skip.Tie as tie
+use Rattle.screen_sequences.proofs.skip.Statement.{statement}
+use Rattle.screen_sequences.proofs.skip.Tie as tie
 
 returns : tie.Need-returns
 returns c = simp (lt-leb _ _ (c .if1 .taken))

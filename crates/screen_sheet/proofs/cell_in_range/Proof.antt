@@ -1,8 +1,8 @@
--- `sheet::cell_in_range` meets its contract. Assumes nothing.
+-- `screen_sheet::cell_in_range` meets its contract. Assumes nothing.
 use borrow.Author.Tests.{le-leb, lt-leb}
 use borrow.Author.Needs.{needs}
-use Rattle.sheet.proofs.cell_in_range.Statement.{statement}
-use Rattle.sheet.proofs.cell_in_range.Tie as tie
+use Rattle.screen_sheet.proofs.cell_in_range.Statement.{statement}
+use Rattle.screen_sheet.proofs.cell_in_range.Tie as tie
 
 returns : tie.Need-returns
 returns c = simp (lt-leb _ _ (c .if1 .taken))

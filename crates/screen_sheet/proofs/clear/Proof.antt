@@ -1,4 +1,4 @@
--- `sheet::clear` meets its contract: row 0 is copied over a thousand blank cells. Assumes nothing.
+-- `screen_sheet::clear` meets its contract: row 0 is copied over a thousand blank cells. Assumes nothing.
 use mathlib.Core.Path.{_≡_, ap, _∙_}
 use mathlib.Core.List.{List, _++_}
 use Prim.Native.Nat.{ℕ, _-_, _≤_, _<_}
@@ -7,12 +7,12 @@ use lib.Dec.{lit≤}
 use lib.ListN.{length, getD, take, drop, set, replicate}
 use borrow.Author.Needs.{needs}
 use Rattle.laws.proofs.Lists.{put, length-mapped}
-use Rattle.cells.specs.declared.Cell.{Cell}
-use Rattle.cells.specs.Characters.{blankOf}
-use Rattle.sheet.specs.Clearing.{cleared}
-use Rattle.sheet.proofs.Stays.{noCell}
-use Rattle.sheet.proofs.clear.Statement.{statement}
-use Rattle.sheet.proofs.clear.Tie as tie
+use Rattle.screen_cells.specs.declared.Cell.{Cell}
+use Rattle.screen_cells.specs.Characters.{blankOf}
+use Rattle.screen_sheet.specs.Clearing.{cleared}
+use Rattle.screen_sheet.proofs.Stays.{noCell}
+use Rattle.screen_sheet.proofs.clear.Statement.{statement}
+use Rattle.screen_sheet.proofs.clear.Tie as tie
 
 abbrev Inv-loop : tie.InvT-loop
 Inv-loop old cells₀ i₀ cells i = (i ≤ 40) × (cells ≡ take i (old) ++ drop i (replicate 1000 blankOf))

@@ -1,4 +1,4 @@
--- `sheet::in_range` meets its contract: the cells not tested yet decide as all of them do. Assumes
+-- `screen_sheet::in_range` meets its contract: the cells not tested yet decide as all of them do. Assumes
 -- nothing.
 use mathlib.Core.Path.{_≡_, refl, sym, ap, _∙_}
 use mathlib.Core.Bool.{Bool, true, false, _&&_}
@@ -11,11 +11,11 @@ use lib.ListN.{length, drop, getD, drop-of-length-le}
 use lib.Seq.{drop-cons}
 use borrow.Author.Needs.{needs}
 use Rattle.laws.proofs.Lists.{length-mapped}
-use Rattle.cells.specs.declared.Cell.{Cell}
-use Rattle.sheet.specs.Within.{goodCell, allGood}
-use Rattle.sheet.proofs.Stays.{noCell}
-use Rattle.sheet.proofs.in_range.Statement.{statement}
-use Rattle.sheet.proofs.in_range.Tie as tie
+use Rattle.screen_cells.specs.declared.Cell.{Cell}
+use Rattle.screen_sheet.specs.Within.{goodCell, allGood}
+use Rattle.screen_sheet.proofs.Stays.{noCell}
+use Rattle.screen_sheet.proofs.in_range.Statement.{statement}
+use Rattle.screen_sheet.proofs.in_range.Tie as tie
 
 next : (cs : List Cell) (i : ℕ) (t : Bool) → i < length cs → goodCell (getD cs i noCell) ≡ t
     → allGood (drop i cs) ≡ (t && allGood (drop (i + 1) cs))

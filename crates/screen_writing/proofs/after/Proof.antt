@@ -1,7 +1,7 @@
--- `writing::after` meets its contract. Assumes nothing.
+-- `screen_writing::after` meets its contract. Assumes nothing.
 use borrow.Author.Needs.{needs}
-use Rattle.writing.proofs.after.Statement.{statement}
-use Rattle.writing.proofs.after.Tie as tie
+use Rattle.screen_writing.proofs.after.Statement.{statement}
+use Rattle.screen_writing.proofs.after.Tie as tie
 
 enum-told : tie.Need-enum-told
 enum-told c = search needs

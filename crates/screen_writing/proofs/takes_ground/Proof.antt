@@ -1,7 +1,7 @@
--- `writing::takes_ground` meets its contract. Assumes nothing.
+-- `screen_writing::takes_ground` meets its contract. Assumes nothing.
 use borrow.Author.Tests.{eq-eqb, ne-eqb}
-use Rattle.writing.proofs.takes_ground.Statement.{statement}
-use Rattle.writing.proofs.takes_ground.Tie as tie
+use Rattle.screen_writing.proofs.takes_ground.Statement.{statement}
+use Rattle.screen_writing.proofs.takes_ground.Tie as tie
 
 returns : tie.Need-returns
 returns c = simp (eq-eqb _ _ (c .if1 .taken))

@@ -1,7 +1,7 @@
--- `writing::write` meets its contract. Assumes nothing.
+-- `screen_writing::write` meets its contract. Assumes nothing.
 use borrow.Author.Needs.{needs}
-use Rattle.writing.proofs.write.Statement.{statement}
-use Rattle.writing.proofs.write.Tie as tie
+use Rattle.screen_writing.proofs.write.Statement.{statement}
+use Rattle.screen_writing.proofs.write.Tie as tie
 
 after-requires : tie.Need-after-requires
 after-requires c κs = search needs

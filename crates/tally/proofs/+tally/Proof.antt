@@ -7,7 +7,7 @@ use Rattle.tally.proofs.tally.Reads as tally
 use Rattle.tally.proofs.tally.Kinds as tally-kinds
 use Rattle.tally.proofs.+tally.Lts-tally as tally-lts
 use Rattle.tally.proofs.judged.Reads as judged-reads
-use Rattle.validity.proofs.flip.Reads as flip-reads
+use Rattle.block_validity.proofs.flip.Reads as flip-reads
 use Rattle.tally.proofs.+tally.{statement}
 use Rattle.tally.proofs.+tally.Tie.{close}
 

@@ -1,7 +1,7 @@
 -- The theorem is proved where its words are. Assumes nothing.
 use mathlib.Core.Path.{sym}
-use Rattle.maker.proofs.Numbered.{refused}
-use Rattle.reader.proofs.Handed.{refused-whole}
+use Rattle.block_maker.proofs.Numbered.{refused}
+use Rattle.block_reader.proofs.Handed.{refused-whole}
 use Rattle.block_demands.proofs.demand_one.refusals_leave_what_was_lent.Statement.{statement}
 use Rattle.block_demands.proofs.demand_one.refusals_leave_what_was_lent.Tie as tie
 

@@ -1,6 +1,6 @@
 -- The theorem is proved where its words are. Assumes nothing.
-use Rattle.reader.proofs.Verdicts.{handed-on, asked-when-none}
-use Rattle.reader.proofs.Handed.{handed-first}
+use Rattle.block_reader.proofs.Verdicts.{handed-on, asked-when-none}
+use Rattle.block_reader.proofs.Handed.{handed-first}
 use Rattle.block_demands.proofs.demand_three.handed_on_is_the_only_valid_block_near.Statement.{statement}
 use Rattle.block_demands.proofs.demand_three.handed_on_is_the_only_valid_block_near.Tie as tie
 

@@ -1,6 +1,6 @@
 -- The theorem is proved where its words are. Assumes nothing.
-use Rattle.reader.proofs.Verdicts.{once-whole, once-refused}
-use Rattle.reader.proofs.Handed.{once-handed}
+use Rattle.block_reader.proofs.Verdicts.{once-whole, once-refused}
+use Rattle.block_reader.proofs.Handed.{once-handed}
 use Rattle.block_demands.proofs.demand_three.hit_once_comes_back_whole.Statement.{statement}
 use Rattle.block_demands.proofs.demand_three.hit_once_comes_back_whole.Tie as tie
 

@@ -1,5 +1,5 @@
 -- The theorem is proved where its words are. Assumes nothing.
-use Rattle.reader.proofs.Verdicts.{twice-refused}
+use Rattle.block_reader.proofs.Verdicts.{twice-refused}
 use Rattle.block_demands.proofs.demand_three.hit_twice_is_refused.Statement.{statement}
 use Rattle.block_demands.proofs.demand_three.hit_twice_is_refused.Tie as tie
 

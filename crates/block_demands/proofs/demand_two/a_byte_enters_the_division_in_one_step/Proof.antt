@@ -1,5 +1,5 @@
 -- The theorem is proved where its words are. Assumes nothing.
-use Rattle.division.proofs.Entering.{byte-more, place-lt, back-again}
+use Rattle.block_division.proofs.Entering.{byte-more, place-lt, back-again}
 use Rattle.block_demands.proofs.demand_two.a_byte_enters_the_division_in_one_step.Statement.{statement}
 use Rattle.block_demands.proofs.demand_two.a_byte_enters_the_division_in_one_step.Tie as tie
 

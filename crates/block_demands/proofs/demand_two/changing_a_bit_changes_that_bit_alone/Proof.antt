@@ -1,5 +1,5 @@
 -- The theorem is proved where its words are. Assumes nothing.
-use Rattle.validity.proofs.Flips.{flip-bits}
+use Rattle.block_validity.proofs.Flips.{flip-bits}
 use Rattle.block_demands.proofs.demand_two.changing_a_bit_changes_that_bit_alone.Statement.{statement}
 use Rattle.block_demands.proofs.demand_two.changing_a_bit_changes_that_bit_alone.Tie as tie
 

@@ -1,6 +1,6 @@
 -- The theorem is proved where its words are. Assumes nothing.
-use Rattle.validity.proofs.Powers.{power-of-useful, power-of-check}
-use Rattle.reader.proofs.Mending.{mendable-is}
+use Rattle.block_validity.proofs.Powers.{power-of-useful, power-of-check}
+use Rattle.block_reader.proofs.Mending.{mendable-is}
 use Rattle.block_demands.proofs.demand_two.each_code_bit_stands_for_its_power.Statement.{statement}
 use Rattle.block_demands.proofs.demand_two.each_code_bit_stands_for_its_power.Tie as tie
 

@@ -1,5 +1,5 @@
 -- The theorem is proved where its words are. Assumes nothing.
-use Rattle.validity.proofs.Powers.{divisible}
+use Rattle.block_validity.proofs.Powers.{divisible}
 use Rattle.block_demands.proofs.demand_two.nothing_is_left_exactly_when_the_generator_divides.Statement.{statement}
 use Rattle.block_demands.proofs.demand_two.nothing_is_left_exactly_when_the_generator_divides.Tie as tie
 

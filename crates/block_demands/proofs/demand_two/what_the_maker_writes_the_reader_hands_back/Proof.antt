@@ -1,6 +1,6 @@
 -- The theorem is proved where its words are. Assumes nothing.
-use Rattle.maker.proofs.Blocks.{made-valid, values-back}
-use Rattle.maker.proofs.Left.{left-block}
+use Rattle.block_maker.proofs.Blocks.{made-valid, values-back}
+use Rattle.block_maker.proofs.Left.{left-block}
 use Rattle.block.proofs.Returned.{made-clean, made-handed}
 use Rattle.block_demands.proofs.demand_two.what_the_maker_writes_the_reader_hands_back.Statement.{statement}
 use Rattle.block_demands.proofs.demand_two.what_the_maker_writes_the_reader_hands_back.Tie as tie

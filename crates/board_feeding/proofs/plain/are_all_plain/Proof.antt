@@ -1,4 +1,4 @@
--- `feeding::plain::are_all_plain` meets its contract. Assumes nothing.
+-- `board_feeding::plain::are_all_plain` meets its contract. Assumes nothing.
 use mathlib.Core.Path.{_≡_, refl, sym, ap₂, ap, _∙_}
 use mathlib.Core.Bool.{Bool, _&&_}
 use Prim.Native.Nat.{ℕ, _-_, _≤_, zero-le}
@@ -6,10 +6,10 @@ use native.Mathlib.Omega.{arith}
 use lib.ListN.{length, take}
 use lib.Seq.{take-all}
 use borrow.Author.Needs.{needs}
-use Rattle.feeding.specs.Plain.{allPlain}
-use Rattle.feeding.proofs.Passed.{plain-further}
-use Rattle.feeding.proofs.plain.are_all_plain.Statement.{statement}
-use Rattle.feeding.proofs.plain.are_all_plain.Tie as tie
+use Rattle.board_feeding.specs.Plain.{allPlain}
+use Rattle.board_feeding.proofs.Passed.{plain-further}
+use Rattle.board_feeding.proofs.plain.are_all_plain.Statement.{statement}
+use Rattle.board_feeding.proofs.plain.are_all_plain.Tie as tie
 
 abbrev Inv-loop : tie.InvT-loop
 Inv-loop values plain₀ i₀ plain i = (i ≤ 15) × (length values ≡ 15) × (plain ≡ allPlain (take i values))

@@ -1,11 +1,11 @@
--- `feeding::are_plain` meets its contract. Assumes nothing.
+-- `board_feeding::are_plain` meets its contract. Assumes nothing.
 use mathlib.Core.Path.{_≡_, sym, ap, ap₂, _∙_}
 use mathlib.Core.Bool.{Bool, _&&_}
 use borrow.Author.Needs.{needs}
 use Rattle.links.specs.States.{inRange}
-use Rattle.feeding.specs.Plain.{allPlain, isFree, arePlain}
-use Rattle.feeding.proofs.plain.are_plain.Statement.{statement}
-use Rattle.feeding.proofs.plain.are_plain.Tie as tie
+use Rattle.board_feeding.specs.Plain.{allPlain, isFree, arePlain}
+use Rattle.board_feeding.proofs.plain.are_plain.Statement.{statement}
+use Rattle.board_feeding.proofs.plain.are_plain.Tie as tie
 
 is-free-requires : tie.Need-is-free-requires
 is-free-requires c κs = search needs

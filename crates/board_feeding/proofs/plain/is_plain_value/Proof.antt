@@ -1,7 +1,7 @@
--- `feeding::plain::is_plain_value` meets its contract. Assumes nothing.
+-- `board_feeding::plain::is_plain_value` meets its contract. Assumes nothing.
 use mathlib.Core.Path.{refl}
-use Rattle.feeding.proofs.plain.is_plain_value.Statement.{statement}
-use Rattle.feeding.proofs.plain.is_plain_value.Tie as tie
+use Rattle.board_feeding.proofs.plain.is_plain_value.Statement.{statement}
+use Rattle.board_feeding.proofs.plain.is_plain_value.Tie as tie
 
 returns : tie.Need-returns
 returns c = refl

@@ -7,13 +7,13 @@ use lib.ListN.{length, getD, take, drop, set, replicate, length-set}
 use lib.Seq.{length-take-le}
 use borrow.Author.Needs.{needs}
 use Rattle.laws.proofs.Lists.{put}
-use Rattle.feeding.specs.declared.Outlet.{Outlet}
-use Rattle.feeding.specs.Feeding.{outlet}
-use Rattle.feeding.proofs.Outlets.{drop-zeros}
-use Rattle.feeding.proofs.plain.outlet_of.Statement.{statement}
-use Rattle.feeding.proofs.plain.outlet_of.Tie as tie
-use Rattle.feeding.proofs.plain.outlet_of.Reads as reads
-use Rattle.feeding.proofs.plain.outlet_of.Lts as lts
+use Rattle.board_feeding.specs.declared.Outlet.{Outlet}
+use Rattle.board_feeding.specs.Feeding.{outlet}
+use Rattle.board_feeding.proofs.Outlets.{drop-zeros}
+use Rattle.board_feeding.proofs.plain.outlet_of.Statement.{statement}
+use Rattle.board_feeding.proofs.plain.outlet_of.Tie as tie
+use Rattle.board_feeding.proofs.plain.outlet_of.Reads as reads
+use Rattle.board_feeding.proofs.plain.outlet_of.Lts as lts
 
 abbrev Inv-loop : tie.InvT-loop
 Inv-loop marked count values codes₀ i₀ codes i =

@@ -1,10 +1,10 @@
 use mathlib.Core.Path.{_≡_, sym, _∙_}
 use lib.ListN.{take}
-use Rattle.feeding.proofs.Passed.{fed-all}
-use Rattle.feeding.specs.Feeding.{fed}
+use Rattle.board_feeding.proofs.Passed.{fed-all}
+use Rattle.board_feeding.specs.Feeding.{fed}
 use borrow.Author.Needs.{needs}
-use Rattle.feeding.proofs.plain.pass_all.Statement.{statement}
-use Rattle.feeding.proofs.plain.pass_all.Tie as tie
+use Rattle.board_feeding.proofs.plain.pass_all.Statement.{statement}
+use Rattle.board_feeding.proofs.plain.pass_all.Tie as tie
 
 -- src/lib.rt:158:9
 outlet-of-requires : tie.Need-outlet-of-requires

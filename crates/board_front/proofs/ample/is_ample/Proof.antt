@@ -1,12 +1,12 @@
--- `front::ample::is_ample` meets its contract. Assumes nothing.
+-- `board_front::ample::is_ample` meets its contract. Assumes nothing.
 use mathlib.Core.Path.{_≡_, sym}
 use Prim.Native.Nat.{_/_}
 use native.Mathlib.Omega.{arith}
 use borrow.Author.Tests.{leb-true}
 use Rattle.laws.proofs.Computed.{fails}
 use borrow.Author.Needs.{needs}
-use Rattle.front.proofs.ample.is_ample.Statement.{statement}
-use Rattle.front.proofs.ample.is_ample.Tie as tie
+use Rattle.board_front.proofs.ample.is_ample.Statement.{statement}
+use Rattle.board_front.proofs.ample.is_ample.Tie as tie
 
 is-long-requires : tie.Need-is-long-requires
 is-long-requires c κs = search needs

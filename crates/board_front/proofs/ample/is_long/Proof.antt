@@ -1,10 +1,10 @@
--- `front::ample::is_long` meets its contract. Assumes nothing.
+-- `board_front::ample::is_long` meets its contract. Assumes nothing.
 use mathlib.Core.Path.{_≡_, sym}
 use native.Mathlib.Omega.{arith}
 use borrow.Author.Tests.{leb-true}
 use Rattle.laws.proofs.Computed.{fails}
-use Rattle.front.proofs.ample.is_long.Statement.{statement}
-use Rattle.front.proofs.ample.is_long.Tie as tie
+use Rattle.board_front.proofs.ample.is_long.Statement.{statement}
+use Rattle.board_front.proofs.ample.is_long.Tie as tie
 
 returns : tie.Need-returns
 returns c = λ e. absurd (fails (sym e) tt)

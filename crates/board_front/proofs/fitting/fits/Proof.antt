@@ -1,10 +1,10 @@
--- `front::fits` meets its contract. Assumes nothing.
+-- `board_front::fits` meets its contract. Assumes nothing.
 use mathlib.Core.Path.{_≡_, sym}
 use native.Mathlib.Omega.{arith}
 use borrow.Author.Needs.{needs}
-use Rattle.front.proofs.Amply.{amply}
-use Rattle.front.proofs.fitting.fits.Statement.{statement}
-use Rattle.front.proofs.fitting.fits.Tie as tie
+use Rattle.board_front.proofs.Amply.{amply}
+use Rattle.board_front.proofs.fitting.fits.Statement.{statement}
+use Rattle.board_front.proofs.fitting.fits.Tie as tie
 
 is-ample-requires : tie.Need-is-ample-requires
 is-ample-requires c κs = search needs

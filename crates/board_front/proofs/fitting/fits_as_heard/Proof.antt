@@ -1,4 +1,4 @@
--- `front::fitting::fits_as_heard` meets its contract. Assumes nothing.
+-- `board_front::fitting::fits_as_heard` meets its contract. Assumes nothing.
 use mathlib.Core.Path.{_≡_, refl, sym, ap, _∙_, subst, subst⁻¹}
 use mathlib.Core.List.{List}
 use Prim.Native.Nat.{ℕ, _-_, _≤_, _<_, zero-le}
@@ -6,16 +6,16 @@ use native.Mathlib.Omega.{arith}
 use lib.ListN.{length, take, getD}
 use borrow.Author.Needs.{needs}
 use lib.Seq.{take-all}
-use Rattle.feeding.specs.Feeding.{got}
-use Rattle.front.specs.declared.Front.{Front}
-use Rattle.front.specs.declared.Heard.{Heard}
-use Rattle.front.specs.declared.Room.{Room}
-use Rattle.front.specs.Hearing.{heardBy, calls, behind}
-use Rattle.front.specs.Fitting.{needed, needsOf, more, leftOver}
-use Rattle.front.proofs.Onwards.{behind-one}
-use Rattle.front.proofs.Rooms.{tested, one-more, Spent, spent-on, lacking, short, enough, spent-whole}
-use Rattle.front.proofs.fitting.fits_as_heard.Statement.{statement}
-use Rattle.front.proofs.fitting.fits_as_heard.Tie as tie
+use Rattle.board_feeding.specs.Feeding.{got}
+use Rattle.board_front.specs.declared.Front.{Front}
+use Rattle.board_front.specs.declared.Heard.{Heard}
+use Rattle.board_front.specs.declared.Room.{Room}
+use Rattle.board_front.specs.Hearing.{heardBy, calls, behind}
+use Rattle.board_front.specs.Fitting.{needed, needsOf, more, leftOver}
+use Rattle.board_front.proofs.Onwards.{behind-one}
+use Rattle.board_front.proofs.Rooms.{tested, one-more, Spent, spent-on, lacking, short, enough, spent-whole}
+use Rattle.board_front.proofs.fitting.fits_as_heard.Statement.{statement}
+use Rattle.board_front.proofs.fitting.fits_as_heard.Tie as tie
 
 abbrev Inv-loop : tie.InvT-loop
 Inv-loop piece front₀ left₀ i₀ front left i =

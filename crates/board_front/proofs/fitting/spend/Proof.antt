@@ -1,8 +1,8 @@
--- `front::fitting::spend` meets its contract. Assumes nothing.
+-- `board_front::fitting::spend` meets its contract. Assumes nothing.
 use borrow.Author.Tests.{le-leb, lt-leb}
-use Rattle.front.specs.Fitting.{leftOver}
-use Rattle.front.proofs.fitting.spend.Statement.{statement}
-use Rattle.front.proofs.fitting.spend.Tie as tie
+use Rattle.board_front.specs.Fitting.{leftOver}
+use Rattle.board_front.proofs.fitting.spend.Statement.{statement}
+use Rattle.board_front.proofs.fitting.spend.Tie as tie
 
 returns : tie.Need-returns
 unfolding leftOver

@@ -1,4 +1,4 @@
--- `pieces::outputs::note` meets its contract. Assumes nothing.
+-- `board_pieces::outputs::note` meets its contract. Assumes nothing.
 use mathlib.Core.Path.{_≡_, refl, sym, ap, ap₂, _∙_, subst}
 use mathlib.Core.Bool.{Bool, true, cond}
 use mathlib.Core.List.{List}
@@ -8,10 +8,10 @@ use native.Mathlib.Omega.{arith}
 use lib.ListN.{length, take, getD, set, length-set}
 use lib.Seq.{paste, paste-zero, paste-suc, take-all}
 use borrow.Author.Needs.{needs}
-use Rattle.pieces.specs.Outputs.{written}
-use Rattle.pieces.proofs.Written.{pasted, turnNotes, nothing-before, last-there, so-many-notes}
-use Rattle.pieces.proofs.outputs.note.Statement.{statement}
-use Rattle.pieces.proofs.outputs.note.Tie as tie
+use Rattle.board_pieces.specs.Outputs.{written}
+use Rattle.board_pieces.proofs.Written.{pasted, turnNotes, nothing-before, last-there, so-many-notes}
+use Rattle.board_pieces.proofs.outputs.note.Statement.{statement}
+use Rattle.board_pieces.proofs.outputs.note.Tie as tie
 
 abbrev Inv-loop : tie.InvT-loop
 Inv-loop noting notes₀ at took last before i₀ notes i =

@@ -1,4 +1,4 @@
--- `pieces::outputs::put` meets its contract. Assumes nothing.
+-- `board_pieces::outputs::put` meets its contract. Assumes nothing.
 use mathlib.Core.Path.{_≡_, refl, sym, ap, _∙_}
 use mathlib.Core.List.{List}
 use Prim.Native.Nat.{ℕ, _+_, _-_, _≤_, zero-le}
@@ -7,10 +7,10 @@ use native.Mathlib.Omega.{arith}
 use lib.ListN.{length, take, getD, set, length-set}
 use lib.Seq.{paste, paste-zero, paste-suc, take-all}
 use borrow.Author.Needs.{needs}
-use Rattle.pieces.specs.Outputs.{written}
-use Rattle.pieces.proofs.Written.{pasted}
-use Rattle.pieces.proofs.outputs.put.Statement.{statement}
-use Rattle.pieces.proofs.outputs.put.Tie as tie
+use Rattle.board_pieces.specs.Outputs.{written}
+use Rattle.board_pieces.proofs.Written.{pasted}
+use Rattle.board_pieces.proofs.outputs.put.Statement.{statement}
+use Rattle.board_pieces.proofs.outputs.put.Tie as tie
 
 abbrev Inv-loop : tie.InvT-loop
 Inv-loop out₀ at bytes i₀ out i =

@@ -1,4 +1,4 @@
--- `pieces::outputs::put_where` meets its contract. Assumes nothing.
+-- `board_pieces::outputs::put_where` meets its contract. Assumes nothing.
 use mathlib.Core.Path.{_≡_, sym, ap, _∙_, subst}
 use mathlib.Core.Bool.{Bool, cond}
 use mathlib.Core.List.{List, []}
@@ -6,10 +6,10 @@ use Prim.Native.Nat.{_+_, _≤_}
 use native.Mathlib.Omega.{arith}
 use lib.ListN.{length}
 use borrow.Author.Needs.{needs}
-use Rattle.pieces.specs.Outputs.{written}
-use Rattle.pieces.proofs.Written.{none-written}
-use Rattle.pieces.proofs.outputs.put_where.Statement.{statement}
-use Rattle.pieces.proofs.outputs.put_where.Tie as tie
+use Rattle.board_pieces.specs.Outputs.{written}
+use Rattle.board_pieces.proofs.Written.{none-written}
+use Rattle.board_pieces.proofs.outputs.put_where.Statement.{statement}
+use Rattle.board_pieces.proofs.outputs.put_where.Tie as tie
 
 put-requires : tie.Need-put-requires
 put-requires c κs =

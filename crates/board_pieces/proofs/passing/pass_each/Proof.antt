@@ -1,21 +1,21 @@
--- `pieces::passing::pass_each` meets its contract. Assumes nothing.
+-- `board_pieces::passing::pass_each` meets its contract. Assumes nothing.
 use mathlib.Core.Path.{_≡_, refl, sym, ap, _∙_, subst⁻¹}
 use mathlib.Core.List.{List}
 use Prim.Native.Nat.{ℕ, _+_, _-_, _≤_, _<_, zero-le}
 use native.Mathlib.Omega.{arith}
 use lib.ListN.{length, take}
 use borrow.Author.Needs.{needs}
-use Rattle.wiring.specs.declared.Module.{Module}
-use Rattle.wiring.specs.declared.Module.the-variants.{Screen, Keyboard, Modem, Socket}
+use Rattle.links_wiring.specs.declared.Module.{Module}
+use Rattle.links_wiring.specs.declared.Module.the-variants.{Screen, Keyboard, Modem, Socket}
 use Rattle.links.specs.Runs.{run}
-use Rattle.feeding.specs.Feeding.{fromLine, got}
-use Rattle.pieces.specs.declared.passing.Onward.{Onward}
-use Rattle.pieces.specs.Outputs.{written, sentTo, onward}
-use Rattle.pieces.proofs.Written.{none-written, length-written}
-use Rattle.pieces.proofs.Spread.{none-yet, links-behind, gathered-behind, keys-behind, line-behind, port-behind}
-use Rattle.pieces.proofs.Spread.{one-onward, one-fits, one-written}
-use Rattle.pieces.proofs.passing.pass_each.Statement.{statement}
-use Rattle.pieces.proofs.passing.pass_each.Tie as tie
+use Rattle.board_feeding.specs.Feeding.{fromLine, got}
+use Rattle.board_pieces.specs.declared.passing.Onward.{Onward}
+use Rattle.board_pieces.specs.Outputs.{written, sentTo, onward}
+use Rattle.board_pieces.proofs.Written.{none-written, length-written}
+use Rattle.board_pieces.proofs.Spread.{none-yet, links-behind, gathered-behind, keys-behind, line-behind, port-behind}
+use Rattle.board_pieces.proofs.Spread.{one-onward, one-fits, one-written}
+use Rattle.board_pieces.proofs.passing.pass_each.Statement.{statement}
+use Rattle.board_pieces.proofs.passing.pass_each.Tie as tie
 
 abbrev Inv-loop : tie.InvT-loop
 Inv-loop passed filled g₀ k₀ m₀ s₀ values state₀ i₀ gathered keyboard modem socket state i =

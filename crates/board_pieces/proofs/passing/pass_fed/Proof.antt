@@ -1,10 +1,10 @@
--- `pieces::passing::pass_fed` meets its contract. Assumes nothing.
+-- `board_pieces::passing::pass_fed` meets its contract. Assumes nothing.
 use lib.ListN.{length}
 use borrow.Author.Needs.{needs}
-use Rattle.wiring.specs.declared.Module.the-variants.{Screen, Keyboard, Modem, Socket}
-use Rattle.pieces.proofs.Spread.{share-fits, share-written, share-onward}
-use Rattle.pieces.proofs.passing.pass_fed.Statement.{statement}
-use Rattle.pieces.proofs.passing.pass_fed.Tie as tie
+use Rattle.links_wiring.specs.declared.Module.the-variants.{Screen, Keyboard, Modem, Socket}
+use Rattle.board_pieces.proofs.Spread.{share-fits, share-written, share-onward}
+use Rattle.board_pieces.proofs.passing.pass_fed.Statement.{statement}
+use Rattle.board_pieces.proofs.passing.pass_fed.Tie as tie
 
 feed-requires : tie.Need-feed-requires
 feed-requires c κs = search needs

@@ -1,8 +1,8 @@
--- `pieces::passing::pass_on` meets its contract. Assumes nothing.
+-- `board_pieces::passing::pass_on` meets its contract. Assumes nothing.
 use mathlib.Core.Path.{_≡_, sym, _∙_}
 use borrow.Author.Needs.{needs}
-use Rattle.pieces.proofs.passing.pass_on.Statement.{statement}
-use Rattle.pieces.proofs.passing.pass_on.Tie as tie
+use Rattle.board_pieces.proofs.passing.pass_on.Statement.{statement}
+use Rattle.board_pieces.proofs.passing.pass_on.Tie as tie
 
 are-plain-requires : tie.Need-are-plain-requires
 are-plain-requires c κs = search needs

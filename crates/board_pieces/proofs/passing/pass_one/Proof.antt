@@ -1,10 +1,10 @@
--- `pieces::passing::pass_one` meets its contract. Assumes nothing.
+-- `board_pieces::passing::pass_one` meets its contract. Assumes nothing.
 use mathlib.Core.Path.{_≡_, sym, _∙_}
 use native.Mathlib.Omega.{arith}
 use borrow.Author.Needs.{needs}
-use Rattle.pieces.specs.Outputs.{onward}
-use Rattle.pieces.proofs.passing.pass_one.Statement.{statement}
-use Rattle.pieces.proofs.passing.pass_one.Tie as tie
+use Rattle.board_pieces.specs.Outputs.{onward}
+use Rattle.board_pieces.proofs.passing.pass_one.Statement.{statement}
+use Rattle.board_pieces.proofs.passing.pass_one.Tie as tie
 
 array-write-one : tie.Need-array-write-one
 array-write-one c = search needs

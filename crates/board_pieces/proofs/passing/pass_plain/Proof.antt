@@ -1,13 +1,13 @@
--- `pieces::passing::pass_plain` meets its contract. Assumes nothing.
+-- `board_pieces::passing::pass_plain` meets its contract. Assumes nothing.
 use mathlib.Core.Path.{_≡_, sym, _∙_}
 use native.Mathlib.Omega.{arith}
 use lib.ListN.{length}
 use lib.Seq.{length-take-le}
 use borrow.Author.Needs.{needs}
-use Rattle.wiring.specs.declared.Module.the-variants.{Screen, Keyboard, Modem, Socket}
-use Rattle.pieces.proofs.Spread.{marked-fits, marked-written, marked-onward}
-use Rattle.pieces.proofs.passing.pass_plain.Statement.{statement}
-use Rattle.pieces.proofs.passing.pass_plain.Tie as tie
+use Rattle.links_wiring.specs.declared.Module.the-variants.{Screen, Keyboard, Modem, Socket}
+use Rattle.board_pieces.proofs.Spread.{marked-fits, marked-written, marked-onward}
+use Rattle.board_pieces.proofs.passing.pass_plain.Statement.{statement}
+use Rattle.board_pieces.proofs.passing.pass_plain.Tie as tie
 
 array-share-prefix-values : tie.Need-array-share-prefix-values
 array-share-prefix-values c = search needs

@@ -1,12 +1,12 @@
--- `pieces::passing::put_share` meets its contract. Assumes nothing.
+-- `board_pieces::passing::put_share` meets its contract. Assumes nothing.
 use mathlib.Core.Path.{_≡_, sym, ap, _∙_, subst⁻¹}
 use Prim.Native.Nat.{ℕ, _+_, _≤_}
 use native.Mathlib.Omega.{arith}
 use lib.ListN.{length, take}
 use lib.Seq.{length-take-le}
 use borrow.Author.Needs.{needs}
-use Rattle.pieces.proofs.passing.put_share.Statement.{statement}
-use Rattle.pieces.proofs.passing.put_share.Tie as tie
+use Rattle.board_pieces.proofs.passing.put_share.Statement.{statement}
+use Rattle.board_pieces.proofs.passing.put_share.Tie as tie
 
 -- there are as many as it is said to have
 so-many : (s : tie.Start) → length (take (s .args .share .count) (s .args .share .codes)) ≡ s .args .share .count

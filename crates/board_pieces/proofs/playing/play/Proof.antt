@@ -1,4 +1,4 @@
--- `pieces::playing::play` meets its contract. Assumes nothing.
+-- `board_pieces::playing::play` meets its contract. Assumes nothing.
 use mathlib.Core.Path.{_≡_, refl, sym, ap, ap₂, _∙_, subst, subst⁻¹}
 use mathlib.Core.Bool.{Bool, true, false}
 use mathlib.Core.List.{List, [], _∷_, _++_}
@@ -9,32 +9,32 @@ use lib.ListN.{length, take, drop, replicate, length-replicate, length-drop}
 use lib.Seq.{take-all, length-take-le}
 use borrow.Author.Needs.{needs}
 use Rattle.values.specs.Large.{Values}
-use Rattle.wiring.specs.declared.Module.{Module}
-use Rattle.wiring.specs.declared.Module.the-variants.{Screen, Keyboard, Modem, Socket}
-use Rattle.receiver.specs.declared.Receiver.{Receiver}
+use Rattle.links_wiring.specs.declared.Module.{Module}
+use Rattle.links_wiring.specs.declared.Module.the-variants.{Screen, Keyboard, Modem, Socket}
+use Rattle.line_receiver.specs.declared.Receiver.{Receiver}
 use Rattle.links.specs.declared.Links.{Links}
 use Rattle.links.specs.Runs.{run}
-use Rattle.feeding.specs.Feeding.{fromLine, got}
-use Rattle.feeding.proofs.Suffices.{small-got, suffices}
-use Rattle.page.specs.declared.Screen.{Screen as Page}
-use Rattle.front.specs.declared.Front.{Front}
-use Rattle.front.specs.declared.Room.{Room}
-use Rattle.front.specs.Hearing.{calls, behind, toEach, asks}
-use Rattle.front.specs.Fitting.{roomIn, needed}
-use Rattle.front.proofs.Rooms.{Fits, tested, beginning}
-use Rattle.turns.specs.declared.Turn.{Turn}
-use Rattle.turns.specs.Notes.{notesOf}
-use Rattle.turns.specs.Turns.{turnOf, TakenSingly}
-use Rattle.turns.proofs.Steps.{taken-singly, few-sent}
-use Rattle.pieces.specs.declared.passing.Onward.{Onward}
-use Rattle.pieces.specs.Outputs.{written, sentTo, onward}
-use Rattle.pieces.specs.Playing.{frontOf, played}
-use Rattle.pieces.proofs.Written.{begins}
-use Rattle.pieces.proofs.SoFar.{Played, long, next-front, next-each, next-asks, next-notes, on, so-many, next-used}
-use Rattle.pieces.proofs.SoFar.{notesLeft, notes-long, notes-on, noted-so-far}
-use Rattle.pieces.proofs.Gathered.{Shown, begun, whole, flushed, added}
-use Rattle.pieces.proofs.playing.play.Statement.{statement}
-use Rattle.pieces.proofs.playing.play.Tie as tie
+use Rattle.board_feeding.specs.Feeding.{fromLine, got}
+use Rattle.board_feeding.proofs.Suffices.{small-got, suffices}
+use Rattle.screen_page.specs.declared.Screen.{Screen as Page}
+use Rattle.board_front.specs.declared.Front.{Front}
+use Rattle.board_front.specs.declared.Room.{Room}
+use Rattle.board_front.specs.Hearing.{calls, behind, toEach, asks}
+use Rattle.board_front.specs.Fitting.{roomIn, needed}
+use Rattle.board_front.proofs.Rooms.{Fits, tested, beginning}
+use Rattle.line_turns.specs.declared.Turn.{Turn}
+use Rattle.line_turns.specs.Notes.{notesOf}
+use Rattle.line_turns.specs.Turns.{turnOf, TakenSingly}
+use Rattle.line_turns.proofs.Steps.{taken-singly, few-sent}
+use Rattle.board_pieces.specs.declared.passing.Onward.{Onward}
+use Rattle.board_pieces.specs.Outputs.{written, sentTo, onward}
+use Rattle.board_pieces.specs.Playing.{frontOf, played}
+use Rattle.board_pieces.proofs.Written.{begins}
+use Rattle.board_pieces.proofs.SoFar.{Played, long, next-front, next-each, next-asks, next-notes, on, so-many, next-used}
+use Rattle.board_pieces.proofs.SoFar.{notesLeft, notes-long, notes-on, noted-so-far}
+use Rattle.board_pieces.proofs.Gathered.{Shown, begun, whole, flushed, added}
+use Rattle.board_pieces.proofs.playing.play.Statement.{statement}
+use Rattle.board_pieces.proofs.playing.play.Tie as tie
 
 abbrev Inv-loop : tie.InvT-loop
 Inv-loop piece k₀ m₀ s₀ q₀ n₀ noting screen₀ receiver₀ links₀ used₀ g₀ filled₀ i₀ keyboard modem socket requests notes screen receiver links used gathered filled i =

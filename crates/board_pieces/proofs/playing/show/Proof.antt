@@ -1,9 +1,9 @@
--- `pieces::playing::show` meets its contract. Assumes nothing.
+-- `board_pieces::playing::show` meets its contract. Assumes nothing.
 use mathlib.Core.Path.{_≡_, sym}
 use lib.Seq.{length-take-le}
 use borrow.Author.Needs.{needs}
-use Rattle.pieces.proofs.playing.show.Statement.{statement}
-use Rattle.pieces.proofs.playing.show.Tie as tie
+use Rattle.board_pieces.proofs.playing.show.Statement.{statement}
+use Rattle.board_pieces.proofs.playing.show.Tie as tie
 
 slice-aggregate-run : tie.Need-slice-aggregate-run
 slice-aggregate-run c =

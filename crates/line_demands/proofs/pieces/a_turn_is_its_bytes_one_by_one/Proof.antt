@@ -1,5 +1,5 @@
 -- The theorem is proved where its words are. Assumes nothing.
-use Rattle.turns.proofs.Steps.{taken-singly, whole-stretch, no-bytes}
+use Rattle.line_turns.proofs.Steps.{taken-singly, whole-stretch, no-bytes}
 use Rattle.line_demands.proofs.pieces.a_turn_is_its_bytes_one_by_one.Statement.{statement}
 use Rattle.line_demands.proofs.pieces.a_turn_is_its_bytes_one_by_one.Tie as tie
 

@@ -1,7 +1,7 @@
 -- The theorem is proved where its words are. Assumes nothing.
-use Rattle.turns.proofs.Held.{notes-append}
-use Rattle.turns.proofs.Noted.{as-written, bit-told, while-off}
-use Rattle.turns.proofs.Steps.{notes-many}
+use Rattle.line_turns.proofs.Held.{notes-append}
+use Rattle.line_turns.proofs.Noted.{as-written, bit-told, while-off}
+use Rattle.line_turns.proofs.Steps.{notes-many}
 use Rattle.line_demands.proofs.pieces.the_notes_say_what_each_byte_was.Statement.{statement}
 use Rattle.line_demands.proofs.pieces.the_notes_say_what_each_byte_was.Tie as tie
 

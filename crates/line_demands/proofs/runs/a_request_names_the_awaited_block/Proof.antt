@@ -1,8 +1,8 @@
 -- The theorem is proved where its words are. Assumes nothing.
-use Rattle.codes.proofs.Numbered.{spelled}
-use Rattle.codes.proofs.Seen.{codes-carry-parity}
-use Rattle.receiver.proofs.Kept.{again-same}
-use Rattle.receiver.proofs.Asked.{requests, again-gives}
+use Rattle.line_codes.proofs.Numbered.{spelled}
+use Rattle.line_codes.proofs.Seen.{codes-carry-parity}
+use Rattle.line_receiver.proofs.Kept.{again-same}
+use Rattle.line_receiver.proofs.Asked.{requests, again-gives}
 use Rattle.line_demands.proofs.runs.a_request_names_the_awaited_block.Statement.{statement}
 use Rattle.line_demands.proofs.runs.a_request_names_the_awaited_block.Tie as tie
 

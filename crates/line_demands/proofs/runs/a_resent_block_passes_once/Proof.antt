@@ -1,6 +1,6 @@
 -- The theorem is proved where its words are. Assumes nothing.
-use Rattle.reader.proofs.Verdicts.{once-none}
-use Rattle.receiver.proofs.Whole.{sending, twice-far}
+use Rattle.block_reader.proofs.Verdicts.{once-none}
+use Rattle.line_receiver.proofs.Whole.{sending, twice-far}
 use Rattle.line_demands.proofs.runs.a_resent_block_passes_once.Statement.{statement}
 use Rattle.line_demands.proofs.runs.a_resent_block_passes_once.Tie as tie
 

@@ -1,5 +1,5 @@
 -- The theorem is proved where its words are. Assumes nothing.
-use Rattle.receiver.proofs.Kept.{run-append, sent-append}
+use Rattle.line_receiver.proofs.Kept.{run-append, sent-append}
 use Rattle.line_demands.proofs.runs.a_run_is_the_run_over_its_parts.Statement.{statement}
 use Rattle.line_demands.proofs.runs.a_run_is_the_run_over_its_parts.Tie as tie
 

@@ -1,5 +1,5 @@
 -- The theorem is proved where its words are. Assumes nothing.
-use Rattle.receiver.proofs.Seventeen.{block-passes, block-asked}
+use Rattle.line_receiver.proofs.Seventeen.{block-passes, block-asked}
 use Rattle.line_demands.proofs.runs.each_seventeenth_byte_is_judged.Statement.{statement}
 use Rattle.line_demands.proofs.runs.each_seventeenth_byte_is_judged.Tie as tie
 

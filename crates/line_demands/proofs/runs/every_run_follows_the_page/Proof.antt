@@ -1,6 +1,6 @@
 -- The theorem is proved where its words are. Assumes nothing.
-use Rattle.receiver.proofs.Followed.{follows}
-use Rattle.receiver.proofs.Once.{one-course}
+use Rattle.line_receiver.proofs.Followed.{follows}
+use Rattle.line_receiver.proofs.Once.{one-course}
 use Rattle.line_demands.proofs.runs.every_run_follows_the_page.Statement.{statement}
 use Rattle.line_demands.proofs.runs.every_run_follows_the_page.Tie as tie
 

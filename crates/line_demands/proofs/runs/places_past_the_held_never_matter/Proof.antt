@@ -1,6 +1,6 @@
 -- The theorem is proved where its words are. Assumes nothing.
-use Rattle.receiver.specs.Runs.{run}
-use Rattle.receiver.proofs.Past.{same-calls, same-runs}
+use Rattle.line_receiver.specs.Runs.{run}
+use Rattle.line_receiver.proofs.Past.{same-calls, same-runs}
 use Rattle.line_demands.proofs.runs.places_past_the_held_never_matter.Statement.{statement}
 use Rattle.line_demands.proofs.runs.places_past_the_held_never_matter.Tie as tie
 

@@ -1,5 +1,5 @@
 -- The theorem is proved where its words are. Assumes nothing.
-use Rattle.receiver.proofs.Kept.{on-afresh, off-afresh}
+use Rattle.line_receiver.proofs.Kept.{on-afresh, off-afresh}
 use Rattle.line_demands.proofs.runs.switching_starts_afresh.Statement.{statement}
 use Rattle.line_demands.proofs.runs.switching_starts_afresh.Tie as tie
 

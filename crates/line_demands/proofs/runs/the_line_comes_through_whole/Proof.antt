@@ -1,7 +1,7 @@
 -- The theorem is proved where its words are. Assumes nothing.
-use Rattle.codes.proofs.Seen.{nowhere-none}
-use Rattle.receiver.specs.Line.{madeOf}
-use Rattle.receiver.proofs.Whole.{line-whole, asked-once, each-once, unhit, made-at}
+use Rattle.line_codes.proofs.Seen.{nowhere-none}
+use Rattle.line_receiver.specs.Line.{madeOf}
+use Rattle.line_receiver.proofs.Whole.{line-whole, asked-once, each-once, unhit, made-at}
 use Rattle.line_demands.proofs.runs.the_line_comes_through_whole.Statement.{statement}
 use Rattle.line_demands.proofs.runs.the_line_comes_through_whole.Tie as tie
 

@@ -2,10 +2,10 @@
 use mathlib.Core.Path.{refl}
 use Prim.Native.Nat.{_<_}
 use native.Mathlib.Omega.{arith}
-use Rattle.receiver.specs.States.{newReceiver}
-use Rattle.receiver.proofs.Ranges.{number-in}
-use Rattle.receiver.proofs.Kept.{new-in}
-use Rattle.receiver.proofs.Counted.{moves, counts}
+use Rattle.line_receiver.specs.States.{newReceiver}
+use Rattle.line_receiver.proofs.Ranges.{number-in}
+use Rattle.line_receiver.proofs.Kept.{new-in}
+use Rattle.line_receiver.proofs.Counted.{moves, counts}
 use Rattle.line_demands.proofs.runs.the_number_counts_accepted_blocks.Statement.{statement}
 use Rattle.line_demands.proofs.runs.the_number_counts_accepted_blocks.Tie as tie
 

@@ -1,5 +1,5 @@
 -- The theorem is proved where its words are. Assumes nothing.
-use Rattle.receiver.proofs.Waits.{waits}
+use Rattle.line_receiver.proofs.Waits.{waits}
 use Rattle.line_demands.proofs.runs.waiting_ends_at_the_first_resumption.Statement.{statement}
 use Rattle.line_demands.proofs.runs.waiting_ends_at_the_first_resumption.Tie as tie
 

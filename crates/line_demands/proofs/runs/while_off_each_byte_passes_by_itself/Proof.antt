@@ -1,5 +1,5 @@
 -- The theorem is proved where its words are. Assumes nothing.
-use Rattle.receiver.proofs.WhileOff.{value-passes, odd-passes}
+use Rattle.line_receiver.proofs.WhileOff.{value-passes, odd-passes}
 use Rattle.line_demands.proofs.runs.while_off_each_byte_passes_by_itself.Statement.{statement}
 use Rattle.line_demands.proofs.runs.while_off_each_byte_passes_by_itself.Tie as tie
 

@@ -1,8 +1,8 @@
 -- The theorem is proved where its words are. Assumes nothing.
-use Rattle.receiver.specs.Runs.{run}
-use Rattle.receiver.proofs.Kept.{new-in, runs-keep}
-use Rattle.receiver.proofs.Outgoing.{handed-back, fits}
-use Rattle.receiver.proofs.WhileOff.{new-off}
+use Rattle.line_receiver.specs.Runs.{run}
+use Rattle.line_receiver.proofs.Kept.{new-in, runs-keep}
+use Rattle.line_receiver.proofs.Outgoing.{handed-back, fits}
+use Rattle.line_receiver.proofs.WhileOff.{new-off}
 use Rattle.line_demands.proofs.states.a_broken_state_is_handed_back.Statement.{statement}
 use Rattle.line_demands.proofs.states.a_broken_state_is_handed_back.Tie as tie
 

@@ -1,5 +1,5 @@
 -- The theorem is proved where its words are. Assumes nothing.
-use Rattle.receiver.proofs.Outgoing.{answers}
+use Rattle.line_receiver.proofs.Outgoing.{answers}
 use Rattle.line_demands.proofs.states.each_call_gives_its_number.Statement.{statement}
 use Rattle.line_demands.proofs.states.each_call_gives_its_number.Tie as tie
 

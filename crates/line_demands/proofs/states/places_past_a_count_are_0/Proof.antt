@@ -1,5 +1,5 @@
 -- The theorem is proved where its words are. Assumes nothing.
-use Rattle.receiver.proofs.Padding.{cleared}
+use Rattle.line_receiver.proofs.Padding.{cleared}
 use Rattle.line_demands.proofs.states.places_past_a_count_are_0.Statement.{statement}
 use Rattle.line_demands.proofs.states.places_past_a_count_are_0.Tie as tie
 

@@ -1,7 +1,7 @@
--- `phases::Phase::start` meets its contract. Assumes nothing.
+-- `line_phases::Phase::start` meets its contract. Assumes nothing.
 use mathlib.Core.Path.{refl}
-use Rattle.phases.proofs.Phase.start.Statement.{statement}
-use Rattle.phases.proofs.Phase.start.Tie as tie
+use Rattle.line_phases.proofs.Phase.start.Statement.{statement}
+use Rattle.line_phases.proofs.Phase.start.Tie as tie
 
 returns : tie.Need-returns
 returns c = refl

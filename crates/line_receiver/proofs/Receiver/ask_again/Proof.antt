@@ -1,13 +1,13 @@
--- `receiver::Receiver::ask_again` meets its contract. Assumes nothing.
+-- `line_receiver::Receiver::ask_again` meets its contract. Assumes nothing.
 use mathlib.Core.Path.{_≡_, sym, _∙_}
 use mathlib.Core.Bool.{true}
 use borrow.Author.Needs.{needs}
-use Rattle.phases.specs.declared.Phase.the-variants.{Off, Collecting, Waiting}
-use Rattle.receiver.specs.declared.Receiver.{Receiver}
-use Rattle.receiver.specs.States.{inRange}
-use Rattle.receiver.proofs.Cases.{again-in}
-use Rattle.receiver.proofs.Receiver.ask_again.Statement.{statement}
-use Rattle.receiver.proofs.Receiver.ask_again.Tie as tie
+use Rattle.line_phases.specs.declared.Phase.the-variants.{Off, Collecting, Waiting}
+use Rattle.line_receiver.specs.declared.Receiver.{Receiver}
+use Rattle.line_receiver.specs.States.{inRange}
+use Rattle.line_receiver.proofs.Cases.{again-in}
+use Rattle.line_receiver.proofs.Receiver.ask_again.Statement.{statement}
+use Rattle.line_receiver.proofs.Receiver.ask_again.Tie as tie
 
 abbrev was : tie.After-in-range → Receiver
 was s = s .before .args .self

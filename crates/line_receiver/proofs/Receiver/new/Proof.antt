@@ -1,7 +1,7 @@
--- `receiver::Receiver::new` meets its contract. Assumes nothing.
+-- `line_receiver::Receiver::new` meets its contract. Assumes nothing.
 use borrow.Author.Needs.{needs}
-use Rattle.receiver.proofs.Receiver.new.Statement.{statement}
-use Rattle.receiver.proofs.Receiver.new.Tie as tie
+use Rattle.line_receiver.proofs.Receiver.new.Statement.{statement}
+use Rattle.line_receiver.proofs.Receiver.new.Tie as tie
 
 start-requires : tie.Need-start-requires
 start-requires c κs = search needs

@@ -1,15 +1,15 @@
--- `receiver::Receiver::step` meets its contract. Assumes nothing.
+-- `line_receiver::Receiver::step` meets its contract. Assumes nothing.
 use mathlib.Core.Path.{_≡_, ap, sym, _∙_}
 use mathlib.Core.Bool.{true}
 use borrow.Author.Needs.{needs}
-use Rattle.codes.specs.declared.Listened.{Listened}
-use Rattle.phases.specs.declared.Phase.the-variants.{Off, Collecting, Waiting}
-use Rattle.receiver.specs.declared.Receiver.{Receiver}
-use Rattle.receiver.specs.States.{inRange}
-use Rattle.receiver.specs.Calls.{silent, listening}
-use Rattle.receiver.proofs.Cases.{step-in}
-use Rattle.receiver.proofs.Receiver.step.Statement.{statement}
-use Rattle.receiver.proofs.Receiver.step.Tie as tie
+use Rattle.line_codes.specs.declared.Listened.{Listened}
+use Rattle.line_phases.specs.declared.Phase.the-variants.{Off, Collecting, Waiting}
+use Rattle.line_receiver.specs.declared.Receiver.{Receiver}
+use Rattle.line_receiver.specs.States.{inRange}
+use Rattle.line_receiver.specs.Calls.{silent, listening}
+use Rattle.line_receiver.proofs.Cases.{step-in}
+use Rattle.line_receiver.proofs.Receiver.step.Statement.{statement}
+use Rattle.line_receiver.proofs.Receiver.step.Tie as tie
 
 abbrev was : tie.After-in-range → Receiver
 was s = s .before .args .self

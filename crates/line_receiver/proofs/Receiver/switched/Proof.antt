@@ -1,7 +1,7 @@
--- `receiver::Receiver::switched` meets its contract. Assumes nothing.
+-- `line_receiver::Receiver::switched` meets its contract. Assumes nothing.
 use borrow.Author.Needs.{needs}
-use Rattle.receiver.proofs.Receiver.switched.Statement.{statement}
-use Rattle.receiver.proofs.Receiver.switched.Tie as tie
+use Rattle.line_receiver.proofs.Receiver.switched.Statement.{statement}
+use Rattle.line_receiver.proofs.Receiver.switched.Tie as tie
 
 in-range-requires : tie.Need-in-range-requires
 in-range-requires c κs = search needs

@@ -1,7 +1,7 @@
--- `receiver::outcomes::pass` meets its contract. Assumes nothing.
+-- `line_receiver::outcomes::pass` meets its contract. Assumes nothing.
 use borrow.Author.Needs.{needs}
-use Rattle.receiver.proofs.outcomes.pass.Statement.{statement}
-use Rattle.receiver.proofs.outcomes.pass.Tie as tie
+use Rattle.line_receiver.proofs.outcomes.pass.Statement.{statement}
+use Rattle.line_receiver.proofs.outcomes.pass.Tie as tie
 
 plain-requires : tie.Need-plain-requires
 plain-requires c κs = search needs

@@ -1,7 +1,7 @@
--- `receiver::outcomes::refuse` meets its contract. Assumes nothing.
+-- `line_receiver::outcomes::refuse` meets its contract. Assumes nothing.
 use borrow.Author.Needs.{needs}
-use Rattle.receiver.proofs.outcomes.refuse.Statement.{statement}
-use Rattle.receiver.proofs.outcomes.refuse.Tie as tie
+use Rattle.line_receiver.proofs.outcomes.refuse.Statement.{statement}
+use Rattle.line_receiver.proofs.outcomes.refuse.Tie as tie
 
 silent-requires : tie.Need-silent-requires
 silent-requires c κs = search needs

@@ -1,7 +1,7 @@
--- `receiver::requests::again` meets its contract. Assumes nothing.
+-- `line_receiver::requests::again` meets its contract. Assumes nothing.
 use borrow.Author.Needs.{needs}
-use Rattle.receiver.proofs.requests.again.Statement.{statement}
-use Rattle.receiver.proofs.requests.again.Tie as tie
+use Rattle.line_receiver.proofs.requests.again.Statement.{statement}
+use Rattle.line_receiver.proofs.requests.again.Tie as tie
 
 ask-requires : tie.Need-ask-requires
 ask-requires c κs = search needs

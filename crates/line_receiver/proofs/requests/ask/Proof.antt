@@ -1,7 +1,7 @@
--- `receiver::requests::ask` meets its contract. Assumes nothing.
+-- `line_receiver::requests::ask` meets its contract. Assumes nothing.
 use borrow.Author.Needs.{needs}
-use Rattle.receiver.proofs.requests.ask.Statement.{statement}
-use Rattle.receiver.proofs.requests.ask.Tie as tie
+use Rattle.line_receiver.proofs.requests.ask.Statement.{statement}
+use Rattle.line_receiver.proofs.requests.ask.Tie as tie
 
 request-requires : tie.Need-request-requires
 request-requires c κs = search needs

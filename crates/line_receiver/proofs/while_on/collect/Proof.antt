@@ -1,9 +1,9 @@
--- `receiver::while_on::collect` meets its contract. Assumes nothing.
+-- `line_receiver::while_on::collect` meets its contract. Assumes nothing.
 use mathlib.Core.Path.{sym, _∙_}
 use borrow.Author.Needs.{needs}
-use Rattle.phases.proofs.Seventeenth.{not-yet}
-use Rattle.receiver.proofs.while_on.collect.Statement.{statement}
-use Rattle.receiver.proofs.while_on.collect.Tie as tie
+use Rattle.line_phases.proofs.Seventeenth.{not-yet}
+use Rattle.line_receiver.proofs.while_on.collect.Statement.{statement}
+use Rattle.line_receiver.proofs.while_on.collect.Tie as tie
 
 awaits-more-requires : tie.Need-awaits-more-requires
 awaits-more-requires c κs = search needs

@@ -1,7 +1,7 @@
--- `receiver::while_on::hear` meets its contract. Assumes nothing.
+-- `line_receiver::while_on::hear` meets its contract. Assumes nothing.
 use borrow.Author.Needs.{needs}
-use Rattle.receiver.proofs.while_on.hear.Statement.{statement}
-use Rattle.receiver.proofs.while_on.hear.Tie as tie
+use Rattle.line_receiver.proofs.while_on.hear.Statement.{statement}
+use Rattle.line_receiver.proofs.while_on.hear.Tie as tie
 
 enum-known-heard : tie.Need-enum-known-heard
 enum-known-heard c = search needs

@@ -1,14 +1,14 @@
--- `receiver::while_on::judge_held` meets its contract: the verdict is the one judged, and an array of fifteen is full.
--- Assumes nothing.
+-- `line_receiver::while_on::judge_held` meets its contract: the verdict is the one judged, and an array of fifteen is
+-- full. Assumes nothing.
 use mathlib.Core.Path.{ap, sym, _∙_}
 use mathlib.Core.List.{List}
 use Prim.Native.Nat.{ℕ}
 use borrow.Author.Needs.{needs}
-use Rattle.receiver.specs.declared.Receiver.{Receiver}
-use Rattle.receiver.specs.Calls.{accepted}
-use Rattle.receiver.proofs.Cases.{accepting, as-judged}
-use Rattle.receiver.proofs.while_on.judge_held.Statement.{statement}
-use Rattle.receiver.proofs.while_on.judge_held.Tie as tie
+use Rattle.line_receiver.specs.declared.Receiver.{Receiver}
+use Rattle.line_receiver.specs.Calls.{accepted}
+use Rattle.line_receiver.proofs.Cases.{accepting, as-judged}
+use Rattle.line_receiver.proofs.while_on.judge_held.Statement.{statement}
+use Rattle.line_receiver.proofs.while_on.judge_held.Tie as tie
 
 abbrev was : tie.After-mend → Receiver
 was m = m .before .before .before .args .r

@@ -1,4 +1,4 @@
--- `turns::holding::fill` meets its contract. Assumes nothing.
+-- `line_turns::holding::fill` meets its contract. Assumes nothing.
 use mathlib.Core.Path.{_≡_, refl, sym, ap, ap₂, _∙_}
 use mathlib.Core.List.{List}
 use Prim.Native.Nat.{ℕ, _+_, _-_, _≤_, zero-le}
@@ -7,9 +7,9 @@ use native.Mathlib.Omega.{arith}
 use lib.ListN.{length, getD, set, length-set}
 use lib.Seq.{paste, paste-zero, paste-suc}
 use borrow.Author.Needs.{needs}
-use Rattle.receiver.specs.declared.Receiver.{Receiver}
-use Rattle.turns.proofs.holding.fill.Statement.{statement}
-use Rattle.turns.proofs.holding.fill.Tie as tie
+use Rattle.line_receiver.specs.declared.Receiver.{Receiver}
+use Rattle.line_turns.proofs.holding.fill.Statement.{statement}
+use Rattle.line_turns.proofs.holding.fill.Tie as tie
 
 abbrev with-held : List ℕ → Receiver → Receiver
 with-held h r = record { held = h; count = r .count; number = r .number; phase = r .phase }

@@ -1,18 +1,18 @@
--- `turns::holding::hold` meets its contract. Assumes nothing.
+-- `line_turns::holding::hold` meets its contract. Assumes nothing.
 use mathlib.Core.Path.{_≡_, sym, ap, _∙_}
 use mathlib.Core.Bool.{true}
 use Prim.Native.Nat.{ℕ, _-_}
 use native.Mathlib.Omega.{arith}
 use lib.ListN.{length, take}
 use borrow.Author.Needs.{needs}
-use Rattle.turns.specs.Turns.{holdsMore}
-use Rattle.turns.proofs.Held.{held-few, as-many, as-there, holds-some, holds-none}
-use Rattle.turns.proofs.holding.hold.Statement.{statement}
-use Rattle.turns.proofs.holding.hold.Tie as tie
-use Rattle.turns.proofs.holding.hold.Reads as reads
-use Rattle.turns.proofs.holding.hold.Lts as lts
-use Rattle.turns.proofs.holding.fill.Reads as fill-reads
-use Rattle.turns.proofs.holding.is_holding.Reads as is-holding-reads
+use Rattle.line_turns.specs.Turns.{holdsMore}
+use Rattle.line_turns.proofs.Held.{held-few, as-many, as-there, holds-some, holds-none}
+use Rattle.line_turns.proofs.holding.hold.Statement.{statement}
+use Rattle.line_turns.proofs.holding.hold.Tie as tie
+use Rattle.line_turns.proofs.holding.hold.Reads as reads
+use Rattle.line_turns.proofs.holding.hold.Lts as lts
+use Rattle.line_turns.proofs.holding.fill.Reads as fill-reads
+use Rattle.line_turns.proofs.holding.is_holding.Reads as is-holding-reads
 
 holding : (h : tie.After-is-holding) → h .is-holding .result ≡ true → holdsMore (h .before .before .args .r) ≡ true
 holding h e = sym (h .is-holding .ensures) ∙ e

@@ -1,10 +1,10 @@
 use borrow.Author.Needs.{needs}
-use Rattle.turns.proofs.holding.is_holding.Statement.{statement}
-use Rattle.turns.proofs.holding.is_holding.Tie as tie
-use Rattle.turns.proofs.holding.is_holding.Reads as reads
-use Rattle.turns.proofs.holding.is_holding.Lts as lts
-use Rattle.phases.proofs.awaits_more.Reads as awaits-more-reads
-use Rattle.receiver.proofs.in_range.Reads as in-range-reads
+use Rattle.line_turns.proofs.holding.is_holding.Statement.{statement}
+use Rattle.line_turns.proofs.holding.is_holding.Tie as tie
+use Rattle.line_turns.proofs.holding.is_holding.Reads as reads
+use Rattle.line_turns.proofs.holding.is_holding.Lts as lts
+use Rattle.line_phases.proofs.awaits_more.Reads as awaits-more-reads
+use Rattle.line_receiver.proofs.in_range.Reads as in-range-reads
 
 -- src/holding.rt:21:23
 enum-told : tie.Need-enum-told

@@ -1,10 +1,10 @@
 use borrow.Author.Needs.{needs}
-use Rattle.turns.proofs.notes.note_on.Statement.{statement}
-use Rattle.turns.proofs.notes.note_on.Tie as tie
-use Rattle.turns.proofs.notes.note_on.Reads as reads
-use Rattle.turns.proofs.notes.note_on.Lts as lts
-use Rattle.turns.proofs.notes.silent_note.Reads as silent-note-reads
-use Rattle.turns.proofs.notes.verdict_note.Reads as verdict-note-reads
+use Rattle.line_turns.proofs.notes.note_on.Statement.{statement}
+use Rattle.line_turns.proofs.notes.note_on.Tie as tie
+use Rattle.line_turns.proofs.notes.note_on.Reads as reads
+use Rattle.line_turns.proofs.notes.note_on.Lts as lts
+use Rattle.line_turns.proofs.notes.silent_note.Reads as silent-note-reads
+use Rattle.line_turns.proofs.notes.verdict_note.Reads as verdict-note-reads
 
 -- src/notes.rt:51:28
 enum-told : tie.Need-enum-told

@@ -1,8 +1,8 @@
 use borrow.Author.Needs.{needs}
-use Rattle.turns.proofs.notes.verdict_note.Statement.{statement}
-use Rattle.turns.proofs.notes.verdict_note.Tie as tie
-use Rattle.turns.proofs.notes.verdict_note.Reads as reads
-use Rattle.turns.proofs.notes.verdict_note.Lts as lts
+use Rattle.line_turns.proofs.notes.verdict_note.Statement.{statement}
+use Rattle.line_turns.proofs.notes.verdict_note.Tie as tie
+use Rattle.line_turns.proofs.notes.verdict_note.Reads as reads
+use Rattle.line_turns.proofs.notes.verdict_note.Lts as lts
 
 -- src/notes.rt:14:27
 enum-told : tie.Need-enum-told

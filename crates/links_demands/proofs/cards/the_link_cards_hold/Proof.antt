@@ -1,7 +1,7 @@
 -- The theorem is proved where its words are. Assumes nothing.
 use Rattle.links.proofs.Cards.{link-cards}
-use Rattle.link_demands.proofs.cards.the_link_cards_hold.Statement.{statement}
-use Rattle.link_demands.proofs.cards.the_link_cards_hold.Tie as tie
+use Rattle.links_demands.proofs.cards.the_link_cards_hold.Statement.{statement}
+use Rattle.links_demands.proofs.cards.the_link_cards_hold.Tie as tie
 
 returns : tie.Need-returns
 returns c = link-cards

@@ -1,8 +1,8 @@
 -- The theorem is proved where its words are. Assumes nothing.
-use Rattle.hearing.proofs.Flowing.{phrased}
+use Rattle.links_hearing.proofs.Flowing.{phrased}
 use Rattle.links.proofs.Through.{comes-through, stays-linked}
-use Rattle.link_demands.proofs.flow.all_but_the_commands_comes_through.Statement.{statement}
-use Rattle.link_demands.proofs.flow.all_but_the_commands_comes_through.Tie as tie
+use Rattle.links_demands.proofs.flow.all_but_the_commands_comes_through.Statement.{statement}
+use Rattle.links_demands.proofs.flow.all_but_the_commands_comes_through.Tie as tie
 
 returns : tie.Need-returns
 returns c = (comes-through, (phrased, stays-linked))

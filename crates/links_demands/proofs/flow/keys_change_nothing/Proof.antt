@@ -1,7 +1,7 @@
 -- The theorem is proved where its words are. Assumes nothing.
 use Rattle.links.proofs.Steps.{keys-change-nothing}
-use Rattle.link_demands.proofs.flow.keys_change_nothing.Statement.{statement}
-use Rattle.link_demands.proofs.flow.keys_change_nothing.Tie as tie
+use Rattle.links_demands.proofs.flow.keys_change_nothing.Statement.{statement}
+use Rattle.links_demands.proofs.flow.keys_change_nothing.Tie as tie
 
 returns : tie.Need-returns
 returns c = keys-change-nothing

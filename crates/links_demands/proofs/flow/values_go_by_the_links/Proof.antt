@@ -1,7 +1,7 @@
 -- The theorem is proved where its words are. Assumes nothing.
 use Rattle.links.proofs.Flow.{plain-goes, key-goes}
-use Rattle.link_demands.proofs.flow.values_go_by_the_links.Statement.{statement}
-use Rattle.link_demands.proofs.flow.values_go_by_the_links.Tie as tie
+use Rattle.links_demands.proofs.flow.values_go_by_the_links.Statement.{statement}
+use Rattle.links_demands.proofs.flow.values_go_by_the_links.Tie as tie
 
 returns : tie.Need-returns
 returns c = (plain-goes, key-goes)

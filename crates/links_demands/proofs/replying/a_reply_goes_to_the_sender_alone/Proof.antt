@@ -1,8 +1,8 @@
 -- The theorem is proved where its words are. Assumes nothing.
-use Rattle.ears.proofs.Apart.{names}
+use Rattle.links_ears.proofs.Apart.{names}
 use Rattle.links.proofs.Replying.{link-answered, ask-answered}
-use Rattle.link_demands.proofs.replying.a_reply_goes_to_the_sender_alone.Statement.{statement}
-use Rattle.link_demands.proofs.replying.a_reply_goes_to_the_sender_alone.Tie as tie
+use Rattle.links_demands.proofs.replying.a_reply_goes_to_the_sender_alone.Statement.{statement}
+use Rattle.links_demands.proofs.replying.a_reply_goes_to_the_sender_alone.Tie as tie
 
 returns : tie.Need-returns
 returns c = (names, (link-answered, ask-answered))

@@ -1,7 +1,7 @@
 -- The theorem is proved where its words are. Assumes nothing.
 use Rattle.links.proofs.Echoes.{each-swallowed, never-answered}
-use Rattle.link_demands.proofs.replying.a_reply_is_never_answered.Statement.{statement}
-use Rattle.link_demands.proofs.replying.a_reply_is_never_answered.Tie as tie
+use Rattle.links_demands.proofs.replying.a_reply_is_never_answered.Statement.{statement}
+use Rattle.links_demands.proofs.replying.a_reply_is_never_answered.Tie as tie
 
 returns : tie.Need-returns
 returns c = (each-swallowed, never-answered)

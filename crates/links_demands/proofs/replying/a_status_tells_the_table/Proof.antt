@@ -1,7 +1,7 @@
 -- The theorem is proved where its words are. Assumes nothing.
-use Rattle.replies.proofs.Statuses.{status-bit, status-column}
-use Rattle.link_demands.proofs.replying.a_status_tells_the_table.Statement.{statement}
-use Rattle.link_demands.proofs.replying.a_status_tells_the_table.Tie as tie
+use Rattle.links_replies.proofs.Statuses.{status-bit, status-column}
+use Rattle.links_demands.proofs.replying.a_status_tells_the_table.Statement.{statement}
+use Rattle.links_demands.proofs.replying.a_status_tells_the_table.Tie as tie
 
 returns : tie.Need-returns
 returns c = (status-bit, status-column)

@@ -1,7 +1,7 @@
 -- The theorem is proved where its words are. Assumes nothing.
 use Rattle.links.proofs.Replying.{codes-wait, unknown-swallowed}
-use Rattle.link_demands.proofs.replying.commands_are_taken_out_of_the_flow.Statement.{statement}
-use Rattle.link_demands.proofs.replying.commands_are_taken_out_of_the_flow.Tie as tie
+use Rattle.links_demands.proofs.replying.commands_are_taken_out_of_the_flow.Statement.{statement}
+use Rattle.links_demands.proofs.replying.commands_are_taken_out_of_the_flow.Tie as tie
 
 returns : tie.Need-returns
 returns c = (codes-wait, unknown-swallowed)

@@ -1,7 +1,7 @@
 -- The theorem is proved where its words are. Assumes nothing.
 use Rattle.links.proofs.Own.{own}
-use Rattle.link_demands.proofs.replying.each_has_its_own_sequence.Statement.{statement}
-use Rattle.link_demands.proofs.replying.each_has_its_own_sequence.Tie as tie
+use Rattle.links_demands.proofs.replying.each_has_its_own_sequence.Statement.{statement}
+use Rattle.links_demands.proofs.replying.each_has_its_own_sequence.Tie as tie
 
 returns : tie.Need-returns
 returns c = own

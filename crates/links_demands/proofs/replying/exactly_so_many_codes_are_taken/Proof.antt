@@ -1,7 +1,7 @@
 -- The theorem is proved where its words are. Assumes nothing.
 use Rattle.links.proofs.Replying.{still-midway, is-over}
-use Rattle.link_demands.proofs.replying.exactly_so_many_codes_are_taken.Statement.{statement}
-use Rattle.link_demands.proofs.replying.exactly_so_many_codes_are_taken.Tie as tie
+use Rattle.links_demands.proofs.replying.exactly_so_many_codes_are_taken.Statement.{statement}
+use Rattle.links_demands.proofs.replying.exactly_so_many_codes_are_taken.Tie as tie
 
 returns : tie.Need-returns
 returns c = (still-midway, is-over)

@@ -1,7 +1,7 @@
 -- The theorem is proved where its words are. Assumes nothing.
 use Rattle.links.proofs.Replying.{one-link, asking-leaves}
-use Rattle.link_demands.proofs.replying.one_link_changes.Statement.{statement}
-use Rattle.link_demands.proofs.replying.one_link_changes.Tie as tie
+use Rattle.links_demands.proofs.replying.one_link_changes.Statement.{statement}
+use Rattle.links_demands.proofs.replying.one_link_changes.Tie as tie
 
 returns : tie.Need-returns
 returns c = (one-link, asking-leaves)

@@ -1,7 +1,7 @@
 -- The theorem is proved where its words are. Assumes nothing.
 use Rattle.links.proofs.Steps.{public-values, public-choices}
-use Rattle.link_demands.proofs.states.a_run_makes_the_public_calls.Statement.{statement}
-use Rattle.link_demands.proofs.states.a_run_makes_the_public_calls.Tie as tie
+use Rattle.links_demands.proofs.states.a_run_makes_the_public_calls.Statement.{statement}
+use Rattle.links_demands.proofs.states.a_run_makes_the_public_calls.Tie as tie
 
 returns : tie.Need-returns
 returns c = (public-values, public-choices)

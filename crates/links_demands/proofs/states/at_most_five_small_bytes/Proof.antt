@@ -1,7 +1,7 @@
 -- The theorem is proved where its words are. Assumes nothing.
 use Rattle.links.proofs.Few.{few}
-use Rattle.link_demands.proofs.states.at_most_five_small_bytes.Statement.{statement}
-use Rattle.link_demands.proofs.states.at_most_five_small_bytes.Tie as tie
+use Rattle.links_demands.proofs.states.at_most_five_small_bytes.Statement.{statement}
+use Rattle.links_demands.proofs.states.at_most_five_small_bytes.Tie as tie
 
 returns : tie.Need-returns
 returns c = few

@@ -1,7 +1,7 @@
 -- The theorem is proved where its words are. Assumes nothing.
 use Rattle.links.proofs.Refusals.{broken, large, numbers}
-use Rattle.link_demands.proofs.states.each_call_gives_its_number.Statement.{statement}
-use Rattle.link_demands.proofs.states.each_call_gives_its_number.Tie as tie
+use Rattle.links_demands.proofs.states.each_call_gives_its_number.Statement.{statement}
+use Rattle.links_demands.proofs.states.each_call_gives_its_number.Tie as tie
 
 returns : tie.Need-returns
 returns c = (numbers, (broken, large))

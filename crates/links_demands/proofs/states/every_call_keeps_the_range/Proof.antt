@@ -1,7 +1,7 @@
 -- The theorem is proved where its words are. Assumes nothing.
 use Rattle.links.proofs.Ranges.{tested, passed, run-kept, local-in, connected-in}
-use Rattle.link_demands.proofs.states.every_call_keeps_the_range.Statement.{statement}
-use Rattle.link_demands.proofs.states.every_call_keeps_the_range.Tie as tie
+use Rattle.links_demands.proofs.states.every_call_keeps_the_range.Statement.{statement}
+use Rattle.links_demands.proofs.states.every_call_keeps_the_range.Tie as tie
 
 returns : tie.Need-returns
 returns c = (

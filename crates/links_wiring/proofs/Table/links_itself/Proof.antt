@@ -1,7 +1,7 @@
--- `wiring::Table::links_itself` meets its contract. Assumes nothing.
-use Rattle.wiring.specs.Tables.{selfLinked}
-use Rattle.wiring.proofs.Table.links_itself.Statement.{statement}
-use Rattle.wiring.proofs.Table.links_itself.Tie as tie
+-- `links_wiring::Table::links_itself` meets its contract. Assumes nothing.
+use Rattle.links_wiring.specs.Tables.{selfLinked}
+use Rattle.links_wiring.proofs.Table.links_itself.Statement.{statement}
+use Rattle.links_wiring.proofs.Table.links_itself.Tie as tie
 
 returns : tie.Need-returns
 unfolding selfLinked

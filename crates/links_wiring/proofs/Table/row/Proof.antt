@@ -1,7 +1,7 @@
--- `wiring::Table::row` meets its contract. Assumes nothing.
+-- `links_wiring::Table::row` meets its contract. Assumes nothing.
 use borrow.Author.Needs.{needs}
-use Rattle.wiring.proofs.Table.row.Statement.{statement}
-use Rattle.wiring.proofs.Table.row.Tie as tie
+use Rattle.links_wiring.proofs.Table.row.Statement.{statement}
+use Rattle.links_wiring.proofs.Table.row.Tie as tie
 
 enum-told : tie.Need-enum-told
 enum-told c = search needs

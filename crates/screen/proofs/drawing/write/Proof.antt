@@ -5,13 +5,13 @@ use native.Mathlib.Omega.{arith}
 use native.Mathlib.Numerals.{add-one}
 use lib.ListN.{set}
 use borrow.Author.Needs.{needs}
-use Rattle.cursor.specs.Places.{On}
-use Rattle.cursor.specs.Places.{indexOf}
-use Rattle.cursor.proofs.Tested.{index-low}
-use Rattle.motion.proofs.Stays.{right-on}
-use Rattle.pen.specs.declared.Stroke.{Stroke}
-use Rattle.pen.specs.Strokes.{stroke}
-use Rattle.page.specs.declared.Screen.{Screen}
+use Rattle.screen_cursor.specs.Places.{On}
+use Rattle.screen_cursor.specs.Places.{indexOf}
+use Rattle.screen_cursor.proofs.Tested.{index-low}
+use Rattle.screen_motion.proofs.Stays.{right-on}
+use Rattle.screen_pen.specs.declared.Stroke.{Stroke}
+use Rattle.screen_pen.specs.Strokes.{stroke}
+use Rattle.screen_page.specs.declared.Screen.{Screen}
 use Rattle.screen.specs.Screens.{written, writtenTimes}
 use Rattle.screen.proofs.drawing.write.Statement.{statement}
 use Rattle.screen.proofs.drawing.write.Tie as tie

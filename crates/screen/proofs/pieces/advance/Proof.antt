@@ -8,11 +8,11 @@ use lib.ListN.{length, take, getD}
 use lib.Seq.{take-all}
 use borrow.Author.Needs.{needs}
 use Rattle.laws.proofs.Lists.{length-mapped}
-use Rattle.cursor.proofs.Tested.{index-low}
-use Rattle.page.specs.declared.Screen.{Screen}
-use Rattle.page.specs.Pages.{withPen}
-use Rattle.page.specs.Ranges.{InScreen}
-use Rattle.page.proofs.Stays.{true-screen}
+use Rattle.screen_cursor.proofs.Tested.{index-low}
+use Rattle.screen_page.specs.declared.Screen.{Screen}
+use Rattle.screen_page.specs.Pages.{withPen}
+use Rattle.screen_page.specs.Ranges.{InScreen}
+use Rattle.screen_page.proofs.Stays.{true-screen}
 use Rattle.screen.specs.declared.turns.Turn.{Turn}
 use Rattle.screen.specs.declared.turns.Turn.the-variants.{Typed}
 use Rattle.screen.specs.Screens.{advanced, advancedBy}

@@ -7,11 +7,11 @@ use types.Run.{OneOf, miss}
 use denote.Enum.Declared.{tagOf}
 use borrow.Author.Tests.{le-ltb, lt-ltb}
 use borrow.Author.Needs.{needs}
-use Rattle.sequences.specs.declared.Sequence.{Sequence}
-use Rattle.sequences.specs.declared.Sequence.the-variants.{Free, Escape, Long, Control, Separator, Repeat}
-use Rattle.sequences.specs.declared.Sequence.the-variants.{Single, Address, Row}
-use Rattle.sequences.specs.Hearing.{isFree}
-use Rattle.sequences.proofs.Sequence.{the-type}
+use Rattle.screen_sequences.specs.declared.Sequence.{Sequence}
+use Rattle.screen_sequences.specs.declared.Sequence.the-variants.{Free, Escape, Long, Control, Separator, Repeat}
+use Rattle.screen_sequences.specs.declared.Sequence.the-variants.{Single, Address, Row}
+use Rattle.screen_sequences.specs.Hearing.{isFree}
+use Rattle.screen_sequences.proofs.Sequence.{the-type}
 use Rattle.screen.specs.Turns.{isPlain}
 use Rattle.screen.proofs.turns.is_plain.Statement.{statement}
 use Rattle.screen.proofs.turns.is_plain.Tie as tie

@@ -1,10 +1,10 @@
 -- `screen::turns::take` meets its contract: the plan is that of a pen in range. Assumes nothing.
 use mathlib.Core.Path.{_≡_, ap, _∙_}
 use borrow.Author.Needs.{needs}
-use Rattle.pen.proofs.Stays.{pen-true}
-use Rattle.planning.specs.declared.Planned.{Planned}
-use Rattle.planning.specs.Planning.{planned}
-use Rattle.planning.proofs.Plans.{plan-tested}
+use Rattle.screen_pen.proofs.Stays.{pen-true}
+use Rattle.screen_planning.specs.declared.Planned.{Planned}
+use Rattle.screen_planning.specs.Planning.{planned}
+use Rattle.screen_planning.proofs.Plans.{plan-tested}
 use Rattle.screen.specs.Turns.{turnFor, turned}
 use Rattle.screen.proofs.turns.take.Statement.{statement}
 use Rattle.screen.proofs.turns.take.Tie as tie

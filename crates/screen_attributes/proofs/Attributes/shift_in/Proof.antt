@@ -1,7 +1,7 @@
--- `attributes::Attributes::shift_in` meets its contract. Assumes nothing.
+-- `screen_attributes::Attributes::shift_in` meets its contract. Assumes nothing.
 use mathlib.Core.Path.{refl}
-use Rattle.attributes.proofs.Attributes.shift_in.Statement.{statement}
-use Rattle.attributes.proofs.Attributes.shift_in.Tie as tie
+use Rattle.screen_attributes.proofs.Attributes.shift_in.Statement.{statement}
+use Rattle.screen_attributes.proofs.Attributes.shift_in.Tie as tie
 
 returns : tie.Need-returns
 returns c = refl

@@ -1,7 +1,7 @@
--- `attributes::Attributes::shift_out` meets its contract. Assumes nothing.
+-- `screen_attributes::Attributes::shift_out` meets its contract. Assumes nothing.
 use mathlib.Core.Path.{refl}
-use Rattle.attributes.proofs.Attributes.shift_out.Statement.{statement}
-use Rattle.attributes.proofs.Attributes.shift_out.Tie as tie
+use Rattle.screen_attributes.proofs.Attributes.shift_out.Statement.{statement}
+use Rattle.screen_attributes.proofs.Attributes.shift_out.Tie as tie
 
 returns : tie.Need-returns
 returns c = refl

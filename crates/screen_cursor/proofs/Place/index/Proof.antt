@@ -1,9 +1,9 @@
--- `cursor::Place::index` meets its contract. Assumes nothing.
+-- `screen_cursor::Place::index` meets its contract. Assumes nothing.
 use mathlib.Core.Path.{refl}
 use native.Mathlib.Omega.{arith}
 use borrow.Author.Needs.{needs}
-use Rattle.cursor.proofs.Place.index.Statement.{statement}
-use Rattle.cursor.proofs.Place.index.Tie as tie
+use Rattle.screen_cursor.proofs.Place.index.Statement.{statement}
+use Rattle.screen_cursor.proofs.Place.index.Tie as tie
 
 cast-through : tie.Need-cast-through
 cast-through c = search needs

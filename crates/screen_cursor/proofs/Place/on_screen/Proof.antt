@@ -1,7 +1,7 @@
--- `cursor::Place::on_screen` meets its contract. Assumes nothing.
+-- `screen_cursor::Place::on_screen` meets its contract. Assumes nothing.
 use borrow.Author.Tests.{le-leb, lt-leb}
-use Rattle.cursor.proofs.Place.on_screen.Statement.{statement}
-use Rattle.cursor.proofs.Place.on_screen.Tie as tie
+use Rattle.screen_cursor.proofs.Place.on_screen.Statement.{statement}
+use Rattle.screen_cursor.proofs.Place.on_screen.Tie as tie
 
 returns : tie.Need-returns
 returns c = simp (lt-leb _ _ (c .if1 .taken))

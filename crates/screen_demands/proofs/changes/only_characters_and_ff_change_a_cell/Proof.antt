@@ -1,5 +1,5 @@
 -- The theorem is proved where its words are. Assumes nothing.
-use Rattle.page.proofs.Stays.{unbroken}
+use Rattle.screen_page.proofs.Stays.{unbroken}
 use Rattle.screen.proofs.Touched.{others-stay, ff-cell}
 use Rattle.screen.proofs.Given.{step-taken}
 use Rattle.screen_demands.proofs.changes.only_characters_and_ff_change_a_cell.Statement.{statement}

@@ -1,5 +1,5 @@
 -- The theorem is proved where its words are. Assumes nothing.
-use Rattle.motion.proofs.Rows.{left-side, right-side, up-side, first-side, down-side}
+use Rattle.screen_motion.proofs.Rows.{left-side, right-side, up-side, first-side, down-side}
 use Rattle.screen_demands.proofs.rows.no_move_crosses_into_row_0.Statement.{statement}
 use Rattle.screen_demands.proofs.rows.no_move_crosses_into_row_0.Tie as tie
 

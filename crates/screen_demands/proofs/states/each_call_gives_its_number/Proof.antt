@@ -2,7 +2,7 @@
 use mathlib.Core.Path.{sym, refl, ap, _∙_}
 use mathlib.Core.Bool.{Bool, cond}
 use mathlib.Core.List.{[], _∷_}
-use Rattle.page.proofs.Reading.{read-number, cursor-number}
+use Rattle.screen_page.proofs.Reading.{read-number, cursor-number}
 use Rattle.screen.proofs.Answers.{ran-large}
 use Rattle.screen.proofs.Given.{run-told, step-told, step-broken, run-broken, step-large}
 use Rattle.screen_demands.proofs.states.each_call_gives_its_number.Statement.{statement}

@@ -1,6 +1,6 @@
 -- The theorem is proved where its words are. Assumes nothing.
-use Rattle.sequences.proofs.Opened.{open-good, good-open}
-use Rattle.page.proofs.Stays.{fresh-in-range, true-screen, whole, unbroken}
+use Rattle.screen_sequences.proofs.Opened.{open-good, good-open}
+use Rattle.screen_page.proofs.Stays.{fresh-in-range, true-screen, whole, unbroken}
 use Rattle.screen.proofs.Given.{stepped-in}
 use Rattle.screen_demands.proofs.states.every_step_keeps_the_range.Statement.{statement}
 use Rattle.screen_demands.proofs.states.every_step_keeps_the_range.Tie as tie

@@ -1,5 +1,5 @@
 -- The theorem is proved where its words are. Assumes nothing.
-use Rattle.page.proofs.Reading.{read-number, cursor-number, reads-cell, reads-off, points, fresh-blank}
+use Rattle.screen_page.proofs.Reading.{read-number, cursor-number, reads-cell, reads-off, points, fresh-blank}
 use Rattle.screen_demands.proofs.states.reading_gives_the_cell_at_its_place.Statement.{statement}
 use Rattle.screen_demands.proofs.states.reading_gives_the_cell_at_its_place.Tie as tie
 

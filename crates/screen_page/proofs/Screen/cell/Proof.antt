@@ -1,19 +1,20 @@
--- `page::Screen::cell` meets its contract: a place on the screen has its cell among the thousand. Assumes nothing.
+-- `screen_page::Screen::cell` meets its contract: a place on the screen has its cell among the thousand. Assumes
+-- nothing.
 use mathlib.Core.Path.{_≡_, sym, ap, _∙_}
 use Prim.Native.Nat.{ℕ}
 use native.Mathlib.Omega.{arith}
 use lib.ListN.{length, getD}
 use borrow.Author.Needs.{needs}
 use Rattle.laws.proofs.Lists.{getD-any, length-mapped}
-use Rattle.cursor.specs.Places.{at, On}
-use Rattle.cursor.proofs.Tested.{true-on}
-use Rattle.cursor.proofs.Tested.{index-low}
-use Rattle.cells.specs.Characters.{blankOf}
-use Rattle.sheet.proofs.Stays.{noCell}
-use Rattle.page.specs.Pages.{cellAt}
-use Rattle.page.specs.Reading.{read}
-use Rattle.page.proofs.Screen.cell.Statement.{statement}
-use Rattle.page.proofs.Screen.cell.Tie as tie
+use Rattle.screen_cursor.specs.Places.{at, On}
+use Rattle.screen_cursor.proofs.Tested.{true-on}
+use Rattle.screen_cursor.proofs.Tested.{index-low}
+use Rattle.screen_cells.specs.Characters.{blankOf}
+use Rattle.screen_sheet.proofs.Stays.{noCell}
+use Rattle.screen_page.specs.Pages.{cellAt}
+use Rattle.screen_page.specs.Reading.{read}
+use Rattle.screen_page.proofs.Screen.cell.Statement.{statement}
+use Rattle.screen_page.proofs.Screen.cell.Tie as tie
 
 is-broken-requires : tie.Need-is-broken-requires
 is-broken-requires c κs = search needs

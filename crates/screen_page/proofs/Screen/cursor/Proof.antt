@@ -1,8 +1,8 @@
--- `page::Screen::cursor` meets its contract. Assumes nothing.
+-- `screen_page::Screen::cursor` meets its contract. Assumes nothing.
 use borrow.Author.Needs.{needs}
-use Rattle.page.specs.Reading.{pointed}
-use Rattle.page.proofs.Screen.cursor.Statement.{statement}
-use Rattle.page.proofs.Screen.cursor.Tie as tie
+use Rattle.screen_page.specs.Reading.{pointed}
+use Rattle.screen_page.proofs.Screen.cursor.Statement.{statement}
+use Rattle.screen_page.proofs.Screen.cursor.Tie as tie
 
 is-broken-requires : tie.Need-is-broken-requires
 is-broken-requires c κs = search needs

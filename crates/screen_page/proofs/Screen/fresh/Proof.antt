@@ -1,13 +1,13 @@
--- `page::Screen::fresh` meets its contract. Assumes nothing.
+-- `screen_page::Screen::fresh` meets its contract. Assumes nothing.
 use mathlib.Core.Path.{ap₂}
 use lib.ListN.{replicate}
 use borrow.Author.Needs.{needs}
-use Rattle.cells.specs.declared.Cell.{Cell}
-use Rattle.pen.specs.declared.Pen.{Pen}
-use Rattle.page.specs.declared.Screen.{Screen}
-use Rattle.page.specs.Pages.{freshScreen}
-use Rattle.page.proofs.Screen.fresh.Statement.{statement}
-use Rattle.page.proofs.Screen.fresh.Tie as tie
+use Rattle.screen_cells.specs.declared.Cell.{Cell}
+use Rattle.screen_pen.specs.declared.Pen.{Pen}
+use Rattle.screen_page.specs.declared.Screen.{Screen}
+use Rattle.screen_page.specs.Pages.{freshScreen}
+use Rattle.screen_page.proofs.Screen.fresh.Statement.{statement}
+use Rattle.screen_page.proofs.Screen.fresh.Tie as tie
 
 blank-requires : tie.Need-blank-requires
 blank-requires c κs = search needs

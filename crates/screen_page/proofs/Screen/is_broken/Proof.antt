@@ -1,8 +1,8 @@
--- `page::Screen::is_broken` meets its contract. Assumes nothing.
+-- `screen_page::Screen::is_broken` meets its contract. Assumes nothing.
 use borrow.Author.Needs.{needs}
-use Rattle.page.specs.Ranges.{inRange, broken}
-use Rattle.page.proofs.Screen.is_broken.Statement.{statement}
-use Rattle.page.proofs.Screen.is_broken.Tie as tie
+use Rattle.screen_page.specs.Ranges.{inRange, broken}
+use Rattle.screen_page.proofs.Screen.is_broken.Statement.{statement}
+use Rattle.screen_page.proofs.Screen.is_broken.Tie as tie
 
 in-range-requires : tie.Need-in-range-requires
 in-range-requires c κs = search needs

@@ -1,7 +1,7 @@
--- `pen::Pen::fresh` meets its contract. Assumes nothing.
+-- `screen_pen::Pen::fresh` meets its contract. Assumes nothing.
 use borrow.Author.Needs.{needs}
-use Rattle.pen.proofs.Pen.fresh.Statement.{statement}
-use Rattle.pen.proofs.Pen.fresh.Tie as tie
+use Rattle.screen_pen.proofs.Pen.fresh.Statement.{statement}
+use Rattle.screen_pen.proofs.Pen.fresh.Tie as tie
 
 start-requires : tie.Need-start-requires
 start-requires c κs = search needs

@@ -1,7 +1,7 @@
--- `pen::Pen::write` meets its contract. Assumes nothing.
+-- `screen_pen::Pen::write` meets its contract. Assumes nothing.
 use borrow.Author.Needs.{needs}
-use Rattle.pen.proofs.Pen.write.Statement.{statement}
-use Rattle.pen.proofs.Pen.write.Tie as tie
+use Rattle.screen_pen.proofs.Pen.write.Statement.{statement}
+use Rattle.screen_pen.proofs.Pen.write.Tie as tie
 
 write-requires : tie.Need-write-requires
 write-requires c κs = search needs

@@ -1,20 +1,20 @@
--- `planning::orders::ask` meets its contract. Assumes nothing.
+-- `screen_planning::orders::ask` meets its contract. Assumes nothing.
 use mathlib.Core.Path.{_≡_, refl}
 use mathlib.Core.List.{List, [], _∷_}
 use Prim.Native.Nat.{ℕ}
 use types.Run.{OneOf, miss}
 use denote.Enum.Declared.{tagOf}
 use borrow.Author.Needs.{needs}
-use Rattle.sequences.specs.declared.Order.{Order}
-use Rattle.sequences.specs.declared.Order.the-variants.{Skip, Left, Right, Up, Down, First, Clear, Home}
-use Rattle.sequences.specs.declared.Order.the-variants.{ShiftOut, ShiftIn, Show, Hide, Pair, Go, Write}
-use Rattle.sequences.specs.declared.Order.the-variants.{Second, Again}
-use Rattle.sequences.proofs.Order.{the-type}
-use Rattle.pen.specs.declared.Pen.{Pen}
-use Rattle.planning.specs.declared.Asked.the-variants.{Nothing}
-use Rattle.planning.specs.Obeying.{obeyed}
-use Rattle.planning.proofs.orders.ask.Statement.{statement}
-use Rattle.planning.proofs.orders.ask.Tie as tie
+use Rattle.screen_sequences.specs.declared.Order.{Order}
+use Rattle.screen_sequences.specs.declared.Order.the-variants.{Skip, Left, Right, Up, Down, First, Clear, Home}
+use Rattle.screen_sequences.specs.declared.Order.the-variants.{ShiftOut, ShiftIn, Show, Hide, Pair, Go, Write}
+use Rattle.screen_sequences.specs.declared.Order.the-variants.{Second, Again}
+use Rattle.screen_sequences.proofs.Order.{the-type}
+use Rattle.screen_pen.specs.declared.Pen.{Pen}
+use Rattle.screen_planning.specs.declared.Asked.the-variants.{Nothing}
+use Rattle.screen_planning.specs.Obeying.{obeyed}
+use Rattle.screen_planning.proofs.orders.ask.Statement.{statement}
+use Rattle.screen_planning.proofs.orders.ask.Tie as tie
 
 enum-told : tie.Need-enum-told
 enum-told c = search needs

@@ -1,8 +1,8 @@
--- `planning::orders::obey` meets its contract: pen and what is asked, each by itself. Assumes nothing.
-use Rattle.planning.specs.Obeying.{obeyed}
+-- `screen_planning::orders::obey` meets its contract: pen and what is asked, each by itself. Assumes nothing.
+use Rattle.screen_planning.specs.Obeying.{obeyed}
 use borrow.Author.Needs.{needs}
-use Rattle.planning.proofs.orders.obey.Statement.{statement}
-use Rattle.planning.proofs.orders.obey.Tie as tie
+use Rattle.screen_planning.proofs.orders.obey.Statement.{statement}
+use Rattle.screen_planning.proofs.orders.obey.Tie as tie
 
 ask-requires : tie.Need-ask-requires
 ask-requires c κs = search needs

@@ -1,7 +1,7 @@
--- `planning::orders::repeat` meets its contract. Assumes nothing.
+-- `screen_planning::orders::repeat` meets its contract. Assumes nothing.
 use borrow.Author.Needs.{needs}
-use Rattle.planning.proofs.orders.repeat.Statement.{statement}
-use Rattle.planning.proofs.orders.repeat.Tie as tie
+use Rattle.screen_planning.proofs.orders.repeat.Statement.{statement}
+use Rattle.screen_planning.proofs.orders.repeat.Tie as tie
 
 enum-told : tie.Need-enum-told
 enum-told c = search needs
