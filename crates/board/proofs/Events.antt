@@ -10,7 +10,7 @@ use Rattle.links_wiring.specs.Tables.{reaches}
 use Rattle.links_replies.specs.Replies.{statusesOf}
 use Rattle.links_hearing.specs.declared.Unfinished.the-variants.{Free}
 use Rattle.line_receiver.specs.Runs.{Event as Heard, obey as receiverObey, sentBy}
-use Rattle.links_ears.specs.declared.Ear.the-variants.{Socket as socketEar}
+use Rattle.links_hearing.specs.declared.ears.Ear.the-variants.{Socket as socketEar}
 use Rattle.links.specs.declared.Links.{Links}
 use Rattle.links.specs.declared.Outcome.{Outcome as LinksOutcome}
 use Rattle.links.specs.States.{unfinished}

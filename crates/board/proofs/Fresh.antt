@@ -6,8 +6,8 @@ use lib.ListN.{replicate}
 use Rattle.line_phases.specs.declared.Phase.the-variants.{Off}
 use Rattle.links_replies.specs.Replies.{statusOf, statusesOf}
 use Rattle.links_hearing.specs.declared.Unfinished.the-variants.{Free}
-use Rattle.links_ears.specs.declared.Ear.{Ear}
-use Rattle.links_ears.specs.declared.Ear.the-variants.{Modem as modem, Socket as socket}
+use Rattle.links_hearing.specs.declared.ears.Ear.{Ear}
+use Rattle.links_hearing.specs.declared.ears.Ear.the-variants.{Modem as modem, Socket as socket}
 use Rattle.links.specs.States.{unfinished}
 use Rattle.screen_page.specs.Pages.{freshScreen}
 use Rattle.board.specs.Boards.{freshBoard}

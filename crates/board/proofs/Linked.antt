@@ -14,7 +14,7 @@ use Rattle.links_commands.specs.Commands.{pro1}
 use Rattle.links_hearing.specs.declared.Unfinished.{Unfinished}
 use Rattle.links_hearing.specs.declared.Unfinished.the-variants.{Free}
 use Rattle.links_hearing.specs.Phrases.{Phrase, alone, escape, command, AllProper, allValues}
-use Rattle.links_ears.specs.declared.Ear.the-variants.{Modem as modem}
+use Rattle.links_hearing.specs.declared.ears.Ear.the-variants.{Modem as modem}
 use Rattle.links.specs.declared.Links.{Links}
 use Rattle.links.specs.States.{unfinished}
 use Rattle.links.specs.Runs.{value, obey, Throughout, InRange, Says, freed}

@@ -9,7 +9,7 @@ use Rattle.line_receiver.proofs.Kept.{keeps, run-append as heard-append, sent-a
 use Rattle.links_wiring.specs.declared.Module.{Module}
 use Rattle.links_wiring.specs.declared.Module.the-variants.{Screen, Keyboard, Modem, Socket}
 use Rattle.links.specs.declared.Links.{Links}
-use Rattle.links_ears.specs.declared.Ear.the-variants.{Socket as fromSocket}
+use Rattle.links_hearing.specs.declared.ears.Ear.the-variants.{Socket as fromSocket}
 use Rattle.links.specs.Runs.{Call, key as keyCall, value, toLocal as localCall, toConnected as connectedCall}
 use Rattle.links.specs.Runs.{obey as linksObey, given, run as linksRun}
 use Rattle.links.proofs.Ranges.{run-kept}

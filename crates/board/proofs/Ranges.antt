@@ -8,8 +8,8 @@ use Rattle.values.proofs.Found.{values-none}
 use Rattle.links_wiring.specs.declared.Module.the-variants.{Screen, Keyboard, Modem, Socket}
 use Rattle.links_wiring.specs.Tables.{NoneItself}
 use Rattle.links_hearing.specs.Hearing.{codesOf}
-use Rattle.links_ears.specs.declared.Ear.{Ear}
-use Rattle.links_ears.specs.declared.Ear.the-variants.{Modem as modem, Socket as socket}
+use Rattle.links_hearing.specs.declared.ears.Ear.{Ear}
+use Rattle.links_hearing.specs.declared.ears.Ear.the-variants.{Modem as modem, Socket as socket}
 use Rattle.line_receiver.specs.States.{inRange as receiverInRange}
 use Rattle.line_receiver.proofs.Kept.{new-in}
 use Rattle.links.specs.States.{unfinished, inRange as linksInRange}

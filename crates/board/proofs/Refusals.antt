@@ -8,7 +8,7 @@ use Rattle.line_receiver.specs.States.{inRange as receiverInRange}
 use Rattle.line_receiver.specs.Runs.{byte, on, off, ask}
 use Rattle.links_wiring.specs.declared.Module.{Module}
 use Rattle.links_wiring.specs.declared.Module.the-variants.{Screen, Keyboard, Modem, Socket}
-use Rattle.links_ears.specs.declared.Ear.the-variants.{Socket as fromSocket}
+use Rattle.links_hearing.specs.declared.ears.Ear.the-variants.{Socket as fromSocket}
 use Rattle.links.specs.declared.Answer.{Answer}
 use Rattle.links.specs.declared.Answer.the-variants.{Taken, TooLarge, Broken}
 use Rattle.links.specs.States.{inRange as linksInRange}

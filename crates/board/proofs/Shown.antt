@@ -15,7 +15,7 @@ use Rattle.line_receiver.specs.declared.Receiver.{Receiver}
 use Rattle.line_receiver.specs.Runs.{Event as Heard, byte, on, obey as receiverObey, sentBy, sent, allPassed, allAsked}
 use Rattle.line_receiver.specs.Line.{blocksFor, madeOf, filled, joined, Sending, through}
 use Rattle.line_receiver.proofs.Whole.{sending, unhit}
-use Rattle.links_ears.specs.declared.Ear.the-variants.{Modem as modem}
+use Rattle.links_hearing.specs.declared.ears.Ear.the-variants.{Modem as modem}
 use Rattle.links.specs.declared.Links.{Links}
 use Rattle.links.specs.States.{unfinished}
 use Rattle.links.specs.Runs.{Call, value, obey as linksObey, given, gotFrom, Throughout, Says}

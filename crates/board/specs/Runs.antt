@@ -13,7 +13,7 @@ use Rattle.line_receiver.specs.Runs.{Event as Heard, byte, on, off, ask, obey a
 use Rattle.line_receiver.specs.Runs.{run as receiverRun, sent, allAsked}
 use Rattle.links_wiring.specs.declared.Module.{Module}
 use Rattle.links_wiring.specs.declared.Module.the-variants.{Screen, Keyboard, Modem, Socket}
-use Rattle.links_ears.specs.declared.Ear.the-variants.{Socket as fromSocket}
+use Rattle.links_hearing.specs.declared.ears.Ear.the-variants.{Socket as fromSocket}
 use Rattle.links.specs.Runs.{Call, key as keyCall, value, toLocal as localCall, toConnected as connectedCall}
 use Rattle.links.specs.Runs.{run as linksRun}
 use Rattle.links.specs.Runs.{InRange as LinksIn}

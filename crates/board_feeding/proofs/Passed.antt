@@ -16,7 +16,7 @@ use Rattle.links_hearing.specs.Hearing.{inRange as heldInRange}
 use Rattle.links_hearing.specs.declared.Unfinished.{Unfinished}
 use Rattle.links_hearing.specs.declared.Unfinished.the-variants.{Free, Escape, Pro1, Pro2, Pro2With}
 use Rattle.links_hearing.specs.declared.Unfinished.the-variants.{Pro3, Pro3With, Pro3Both}
-use Rattle.links_ears.specs.declared.Ear.the-variants.{Modem as modem}
+use Rattle.links_hearing.specs.declared.ears.Ear.the-variants.{Modem as modem}
 use Rattle.links.specs.declared.Links.{Links}
 use Rattle.links.specs.States.{inRange, connectedLinks}
 use Rattle.links.specs.Runs.{value, run, PassedOn}

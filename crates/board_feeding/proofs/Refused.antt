@@ -9,7 +9,7 @@ use Rattle.links_wiring.specs.declared.Module.{Module}
 use Rattle.links_wiring.specs.declared.Module.the-variants.{Screen, Keyboard, Modem, Socket}
 use Rattle.links_sending.specs.Sending.{gets}
 use Rattle.links_sending.proofs.Getting.{gets-nothing}
-use Rattle.links_ears.specs.declared.Ear.the-variants.{Modem as modem}
+use Rattle.links_hearing.specs.declared.ears.Ear.the-variants.{Modem as modem}
 use Rattle.links.specs.declared.Links.{Links}
 use Rattle.links.specs.declared.Answer.{Answer}
 use Rattle.links.specs.declared.Outcome.{Outcome}

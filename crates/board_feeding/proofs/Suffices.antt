@@ -12,7 +12,7 @@ use Rattle.values.proofs.Found.{values-none, values-append}
 use Rattle.links_wiring.specs.declared.Module.{Module}
 use Rattle.links_wiring.specs.declared.Module.the-variants.{Screen, Keyboard, Modem, Socket}
 use Rattle.links.specs.declared.Links.{Links}
-use Rattle.links_ears.specs.declared.Ear.the-variants.{Modem as modem}
+use Rattle.links_hearing.specs.declared.ears.Ear.the-variants.{Modem as modem}
 use Rattle.links.specs.Calls.{fromModem}
 use Rattle.links.specs.Runs.{Call, value, obey, given, run}
 use Rattle.links.proofs.Few.{few}

@@ -8,7 +8,7 @@ use Rattle.links_sending.specs.declared.Bytes.{Bytes}
 use Rattle.links_sending.specs.declared.Sent.{Sent}
 use Rattle.links_sending.specs.Sending.{bytesOf}
 use Rattle.links.specs.declared.Links.{Links}
-use Rattle.links_ears.specs.declared.Ear.the-variants.{Modem as modem}
+use Rattle.links_hearing.specs.declared.ears.Ear.the-variants.{Modem as modem}
 use Rattle.links.specs.Runs.{Call, value, obey, given, run}
 use Rattle.board_feeding.specs.declared.Outlet.{Outlet}
 use Rattle.board_feeding.specs.declared.Shares.{Shares}

@@ -25,7 +25,7 @@ use Rattle.line_receiver.specs.Calls.{whole, accepts, judgedAs, listening, byPh
 use Rattle.line_receiver.specs.Runs.{sentBy, sent, allAsked}
 use Rattle.line_receiver.proofs.Asked.{asked-counted, fifteen}
 use Rattle.line_receiver.proofs.Fifteens.{take-short}
-use Rattle.links_ears.specs.declared.Ear.the-variants.{Modem as modem}
+use Rattle.links_hearing.specs.declared.ears.Ear.the-variants.{Modem as modem}
 use Rattle.links.specs.Runs.{Call, value}
 use Rattle.board_feeding.specs.Feeding.{fromLine, got}
 use Rattle.board_feeding.proofs.Suffices.{few-got}

@@ -11,7 +11,7 @@ use Rattle.line_receiver.specs.Calls.{stepped}
 use Rattle.line_receiver.specs.Runs.{Event, byte, run as receiverRun, sentBy, sent, allPassed, allAsked}
 use Rattle.line_receiver.proofs.Kept.{run-append as heard-append, sent-append, asked-append}
 use Rattle.links.specs.declared.Links.{Links}
-use Rattle.links_ears.specs.declared.Ear.the-variants.{Modem as modem}
+use Rattle.links_hearing.specs.declared.ears.Ear.the-variants.{Modem as modem}
 use Rattle.links.specs.Runs.{Call, value, run as linksRun}
 use Rattle.board_feeding.specs.Feeding.{fromLine, got, fed}
 use Rattle.board_feeding.proofs.Suffices.{run-append, got-append}

@@ -12,7 +12,7 @@ use Rattle.line_receiver.specs.declared.Stepped.{Stepped}
 use Rattle.line_receiver.specs.Runs.{byte, on}
 use Rattle.line_receiver.specs.Line.{madeOf, filled, Sending}
 use Rattle.line_receiver.proofs.Kept.{on-afresh}
-use Rattle.links_ears.specs.declared.Ear.the-variants.{Modem as modem}
+use Rattle.links_hearing.specs.declared.ears.Ear.the-variants.{Modem as modem}
 use Rattle.links.specs.States.{unfinished}
 use Rattle.links.specs.Runs.{Throughout}
 use Rattle.board_feeding.specs.Feeding.{fromLine}

@@ -10,7 +10,7 @@ use lib.Seq.{take-add, take-suc}
 use Rattle.links_wiring.specs.declared.Module.{Module}
 use Rattle.links_wiring.specs.declared.Module.the-variants.{Screen, Keyboard, Modem, Socket}
 use Rattle.links_wiring.specs.Tables.{reaches}
-use Rattle.links_ears.specs.declared.Ear.the-variants.{Modem as modem}
+use Rattle.links_hearing.specs.declared.ears.Ear.the-variants.{Modem as modem}
 use Rattle.links.specs.declared.Links.{Links}
 use Rattle.links.specs.Runs.{value, run}
 use Rattle.board_feeding.specs.declared.Fed.{Fed}

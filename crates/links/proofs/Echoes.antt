@@ -22,8 +22,8 @@ use Rattle.links_hearing.proofs.Spelling.{over}
 use Rattle.links_sending.proofs.Echoes.{reply-spelled}
 use Rattle.links.specs.declared.Links.{Links}
 use Rattle.links.specs.declared.Outcome.{Outcome}
-use Rattle.links_ears.specs.declared.Ear.{Ear}
-use Rattle.links_ears.specs.declared.Ear.the-variants.{Modem as modem, Socket as socket}
+use Rattle.links_hearing.specs.declared.ears.Ear.{Ear}
+use Rattle.links_hearing.specs.declared.ears.Ear.the-variants.{Modem as modem, Socket as socket}
 use Rattle.links.specs.States.{unfinished}
 use Rattle.links.specs.Runs.{sameEar, other, Call, value, obey, run, said, gotFrom, InRange, Says, Swallowed}
 use Rattle.links.proofs.Steps.{accepted, own-heard}

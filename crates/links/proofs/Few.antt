@@ -12,7 +12,7 @@ use Rattle.links_sending.specs.Sending.{partOf, FewIn}
 use Rattle.links_sending.proofs.Getting.{few-sent, few-silence}
 use Rattle.links.specs.declared.Links.{Links}
 use Rattle.links.specs.declared.Outcome.{Outcome}
-use Rattle.links_ears.specs.Ears.{nameOf}
+use Rattle.links_hearing.specs.Ears.{nameOf}
 use Rattle.links.specs.States.{unfinished, inRange}
 use Rattle.links.specs.Calls.{choosing, taking, fromEar, fromKeyboard}
 use Rattle.links.specs.Runs.{Call, key, value, toLocal, toConnected, obey}

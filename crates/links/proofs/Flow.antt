@@ -16,11 +16,11 @@ use Rattle.links_hearing.proofs.Spelling.{plain, esc-held, paired}
 use Rattle.links_sending.specs.Sending.{obeyed, gets}
 use Rattle.links_sending.proofs.Getting.{pass-goes, pair-goes, table-after}
 use Rattle.links.specs.declared.Links.{Links}
-use Rattle.links_ears.specs.declared.Ear.{Ear}
-use Rattle.links_ears.specs.declared.Ear.the-variants.{Modem as modem, Socket as socket}
+use Rattle.links_hearing.specs.declared.ears.Ear.{Ear}
+use Rattle.links_hearing.specs.declared.ears.Ear.the-variants.{Modem as modem, Socket as socket}
 use Rattle.links.specs.declared.Outcome.{Outcome}
 use Rattle.links.specs.Calls.{taking, fromEar}
-use Rattle.links_ears.specs.Ears.{nameOf}
+use Rattle.links_hearing.specs.Ears.{nameOf}
 use Rattle.links.specs.States.{unfinished, left}
 use Rattle.links.specs.Runs.{Call, key, value, run, InRange, Says, PassedOn, freed}
 use Rattle.links.proofs.Steps.{accepted, key-accepted}

@@ -16,8 +16,8 @@ use Rattle.links_hearing.specs.declared.Unfinished.the-variants.{Free}
 use Rattle.links_hearing.specs.Hearing.{heard, leftAfter}
 use Rattle.links_hearing.proofs.Spelling.{left-append}
 use Rattle.links.specs.declared.Links.{Links}
-use Rattle.links_ears.specs.declared.Ear.{Ear}
-use Rattle.links_ears.specs.declared.Ear.the-variants.{Modem as modem, Socket as socket}
+use Rattle.links_hearing.specs.declared.ears.Ear.{Ear}
+use Rattle.links_hearing.specs.declared.ears.Ear.the-variants.{Modem as modem, Socket as socket}
 use Rattle.links.specs.declared.Outcome.{Outcome}
 use Rattle.links.specs.States.{unfinished, inRange, localLinks}
 use Rattle.links.specs.Calls.{choosing, fromEar}

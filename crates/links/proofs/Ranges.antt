@@ -17,10 +17,10 @@ use Rattle.links_hearing.specs.Hearing.{codesOf, inRange as sequenceInRange, he
 use Rattle.links_hearing.proofs.Ranges.{tested as codes-tested, passed as codes-passed, kept as codes-kept}
 use Rattle.links_sending.proofs.Getting.{still-none-itself}
 use Rattle.links.specs.declared.Links.{Links}
-use Rattle.links_ears.specs.declared.Ear.{Ear}
-use Rattle.links_ears.specs.declared.Ear.the-variants.{Modem as modem, Socket as socket}
+use Rattle.links_hearing.specs.declared.ears.Ear.{Ear}
+use Rattle.links_hearing.specs.declared.ears.Ear.the-variants.{Modem as modem, Socket as socket}
 use Rattle.links.specs.declared.Outcome.{Outcome}
-use Rattle.links_ears.specs.Ears.{nameOf}
+use Rattle.links_hearing.specs.Ears.{nameOf}
 use Rattle.links.specs.States.{unfinished, starting, localLinks, connectedLinks, inRange}
 use Rattle.links.specs.Calls.{withTable, choosing, taking}
 use Rattle.links.specs.Runs.{Call, key, value, toLocal, toConnected, obey, run, InRange}

@@ -24,9 +24,9 @@ use Rattle.links_sending.specs.declared.Sent.{Sent}
 use Rattle.links_sending.specs.Sending.{obeyed, gets}
 use Rattle.links_sending.proofs.Getting.{gets-nothing, nothing-sent, link-replied, ask-replied, table-after, pairs-after}
 use Rattle.links.specs.declared.Links.{Links}
-use Rattle.links_ears.specs.declared.Ear.{Ear}
+use Rattle.links_hearing.specs.declared.ears.Ear.{Ear}
 use Rattle.links.specs.declared.Outcome.{Outcome}
-use Rattle.links_ears.specs.Ears.{nameOf}
+use Rattle.links_hearing.specs.Ears.{nameOf}
 use Rattle.links.specs.States.{unfinished, inRange}
 use Rattle.links.specs.Calls.{taking, fromEar}
 use Rattle.links.specs.Runs.{other, Call, value, obey, run, Says, Swallowed, Answered}

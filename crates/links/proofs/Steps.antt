@@ -12,12 +12,12 @@ use Rattle.links_hearing.specs.declared.Heard.{Heard}
 use Rattle.links_hearing.specs.Hearing.{heard}
 use Rattle.links_sending.specs.Sending.{silence, obeyed}
 use Rattle.links.specs.declared.Links.{Links}
-use Rattle.links_ears.specs.declared.Ear.{Ear}
-use Rattle.links_ears.specs.declared.Ear.the-variants.{Modem as modem, Socket as socket}
+use Rattle.links_hearing.specs.declared.ears.Ear.{Ear}
+use Rattle.links_hearing.specs.declared.ears.Ear.the-variants.{Modem as modem, Socket as socket}
 use Rattle.links.specs.declared.Answer.the-variants.{Taken}
 use Rattle.links.specs.declared.Outcome.{Outcome}
-use Rattle.links_ears.specs.Ears.{nameOf}
-use Rattle.links_ears.proofs.Apart.{owns}
+use Rattle.links_hearing.specs.Ears.{nameOf}
+use Rattle.links_hearing.proofs.Apart.{owns}
 use Rattle.links.specs.States.{unfinished, inRange}
 use Rattle.links.specs.Calls.{taken, withTable, choosing, withLocal, withConnected, taking, fromEar}
 use Rattle.links.specs.Calls.{fromKeyboard, fromModem, fromSocket}

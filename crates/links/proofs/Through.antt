@@ -23,10 +23,10 @@ use Rattle.links_sending.specs.declared.Sent.{Sent}
 use Rattle.links_sending.specs.Sending.{obeyed, gets}
 use Rattle.links_sending.proofs.Getting.{gets-nothing, nothing-sent, pass-goes, pair-goes, link-replied, ask-replied}
 use Rattle.links.specs.declared.Links.{Links}
-use Rattle.links_ears.specs.declared.Ear.{Ear}
-use Rattle.links_ears.specs.declared.Ear.the-variants.{Modem as modem, Socket as socket}
+use Rattle.links_hearing.specs.declared.ears.Ear.{Ear}
+use Rattle.links_hearing.specs.declared.ears.Ear.the-variants.{Modem as modem, Socket as socket}
 use Rattle.links.specs.declared.Outcome.{Outcome}
-use Rattle.links_ears.specs.Ears.{nameOf}
+use Rattle.links_hearing.specs.Ears.{nameOf}
 use Rattle.links.specs.States.{localLinks, unfinished}
 use Rattle.links.specs.Runs.{Call, key, value, toLocal, toConnected, obey, given, isFrom, saidAt, said, gotFrom}
 use Rattle.links.specs.Runs.{Throughout, InRange, Says}

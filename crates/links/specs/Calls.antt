@@ -14,12 +14,12 @@ use Rattle.links_hearing.specs.Hearing.{heard}
 use Rattle.links_sending.specs.declared.Sent.{Sent}
 use Rattle.links_sending.specs.Sending.{silence, obeyed}
 use Rattle.links.specs.declared.Links.{Links}
-use Rattle.links_ears.specs.declared.Ear.{Ear}
-use Rattle.links_ears.specs.declared.Ear.the-variants.{Modem as modem, Socket as socket}
+use Rattle.links_hearing.specs.declared.ears.Ear.{Ear}
+use Rattle.links_hearing.specs.declared.ears.Ear.the-variants.{Modem as modem, Socket as socket}
 use Rattle.links.specs.declared.Answer.{Answer}
 use Rattle.links.specs.declared.Answer.the-variants.{Taken, TooLarge, Broken}
 use Rattle.links.specs.declared.Outcome.{Outcome}
-use Rattle.links_ears.specs.Ears.{nameOf}
+use Rattle.links_hearing.specs.Ears.{nameOf}
 use Rattle.links.specs.States.{unfinished, left, inRange}
 
 -- the number of each answer, and what it names: a single value stands at place 0

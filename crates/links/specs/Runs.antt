@@ -14,11 +14,11 @@ use Rattle.links_hearing.specs.declared.Unfinished.the-variants.{Free}
 use Rattle.links_hearing.specs.Hearing.{codesOf}
 use Rattle.links_sending.specs.Sending.{gets}
 use Rattle.links.specs.declared.Links.{Links}
-use Rattle.links_ears.specs.declared.Ear.{Ear}
-use Rattle.links_ears.specs.declared.Ear.the-variants.{Modem as modem, Socket as socket}
+use Rattle.links_hearing.specs.declared.ears.Ear.{Ear}
+use Rattle.links_hearing.specs.declared.ears.Ear.the-variants.{Modem as modem, Socket as socket}
 use Rattle.links.specs.declared.Answer.the-variants.{Taken}
 use Rattle.links.specs.declared.Outcome.{Outcome}
-use Rattle.links_ears.specs.Ears.{nameOf}
+use Rattle.links_hearing.specs.Ears.{nameOf}
 use Rattle.links.specs.States.{unfinished, left, inRange}
 use Rattle.links.specs.Calls.{withLocal, withConnected, fromKeyboard, fromEar}
 

@@ -6,9 +6,9 @@ use Rattle.links_hearing.specs.declared.Unfinished.{Unfinished}
 use Rattle.links_hearing.specs.declared.Unfinished.the-variants.{Free}
 use Rattle.links_hearing.specs.Hearing.{inRange as sequenceInRange}
 use Rattle.links.specs.declared.Links.{Links}
-use Rattle.links_ears.specs.declared.Ear.{Ear}
-use Rattle.links_ears.specs.declared.Ear.the-variants.{Modem as modem, Socket as socket}
-use Rattle.links_ears.specs.Ears.{ownOf}
+use Rattle.links_hearing.specs.declared.ears.Ear.{Ear}
+use Rattle.links_hearing.specs.declared.ears.Ear.the-variants.{Modem as modem, Socket as socket}
+use Rattle.links_hearing.specs.Ears.{ownOf}
 
 -- a table, and nothing unfinished
 abbrev pub starting : Table → Links

@@ -2,16 +2,16 @@
 //
 // Keyboard, modem and socket hand in one value at a time, and the host chooses a table; every call takes any state and
 // any value, and hands back the next state, the answer, and what each of the four receivers gets. A broken state, or a
-// value above 127, is refused and changes nothing. `links_wiring` has the table, `links_ears` the two modules that are
-// heard for commands, `links_hearing` what a value from one of them means, `links_sending` what that does. specs/States
-// says what a state is, specs/Calls what each call does, specs/Runs what a whole run is; proofs/ holds their laws.
+// value above 127, is refused and changes nothing. `links_wiring` has the table, `links_hearing` the two modules that
+// are heard for commands and what a value from one of them means, `links_sending` what that does. specs/States says
+// what a state is, specs/Calls what each call does, specs/Runs what a whole run is; proofs/ holds their laws.
 ghost use mathlib.Core.Path.{_≡_};
 ghost use Rattle.links_sending.specs.Sending.{silence};
 ghost use Rattle.links.specs.States.{localLinks, connectedLinks, left, inRange};
 ghost use Rattle.links.specs.Calls.{giving, unlessRefused, choosing, withLocal, withConnected};
 ghost use Rattle.links.specs.Calls.{taking, fromEar, fromKeyboard, fromModem, fromSocket};
 use links_commands::Order;
-pub use links_ears::Ear;
+pub use links_hearing::Ear;
 use links_hearing::Heard;
 use links_hearing::Unfinished;
 use links_sending::Sent;

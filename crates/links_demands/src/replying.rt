@@ -17,9 +17,9 @@ ghost use Rattle.links_commands.specs.Commands.{Command, pro3, spelled, beginni
 ghost use Rattle.links_commands.specs.Commands.{SpelledFor};
 ghost use Rattle.links_hearing.specs.Hearing.{codesOf, leftAfter};
 ghost use Rattle.links.specs.declared.Links.{Links};
-ghost use Rattle.links_ears.specs.declared.Ear.{Ear};
-ghost use Rattle.links_ears.specs.declared.Ear.the-variants.{Modem as EarModem, Socket as EarSocket};
-ghost use Rattle.links_ears.specs.Ears.{nameOf};
+ghost use Rattle.links_hearing.specs.declared.ears.Ear.{Ear};
+ghost use Rattle.links_hearing.specs.declared.ears.Ear.the-variants.{Modem as EarModem, Socket as EarSocket};
+ghost use Rattle.links_hearing.specs.Ears.{nameOf};
 ghost use Rattle.links.specs.States.{unfinished};
 ghost use Rattle.links.specs.Runs.{Call, value, obey, run, said, gotFrom, InRange, Says, Swallowed, Answered};
 

@@ -8,7 +8,7 @@ ghost use Rattle.links_wiring.specs.declared.Module.{Module};
 ghost use Rattle.links_wiring.specs.Tables.{reaches};
 ghost use Rattle.links_replies.specs.Replies.{statusesOf};
 ghost use Rattle.links_sending.specs.Sending.{silence, partOf, FewIn};
-ghost use Rattle.links_ears.specs.declared.Ear.the-variants.{Modem as EarModem, Socket as EarSocket};
+ghost use Rattle.links_hearing.specs.declared.ears.Ear.the-variants.{Modem as EarModem, Socket as EarSocket};
 ghost use Rattle.links.specs.declared.Links.{Links};
 ghost use Rattle.links.specs.declared.Answer.the-variants.{TooLarge, Broken};
 ghost use Rattle.links.specs.States.{localLinks, connectedLinks, inRange};

@@ -4,3 +4,4 @@ pub mod Written
 pub mod Spelling
 pub mod Flowing
 pub mod Ranges
+pub mod Apart

@@ -2,9 +2,14 @@
 // command.
 //
 // `hear` takes an unfinished sequence and one value, and says what is unfinished then and what is ordered. It knows no
-// table. specs/Hearing says the same; proofs/ shows that it takes in just the commands of `links_commands`.
+// table. specs/Hearing says the same; proofs/ shows that it takes in just the commands of `links_commands`. ears.rt has
+// the two modules that are heard.
 ghost use mathlib.Core.Path.{_≡_};
 ghost use Rattle.links_hearing.specs.Hearing.{inRange, holds, does, begun, escaped, heard};
+
+mod ears;
+
+pub use ears::Ear;
 use links_commands::Order;
 
 // An unfinished sequence.

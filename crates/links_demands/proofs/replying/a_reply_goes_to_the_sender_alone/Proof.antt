@@ -1,5 +1,5 @@
 -- The theorem is proved where its words are. Assumes nothing.
-use Rattle.links_ears.proofs.Apart.{names}
+use Rattle.links_hearing.proofs.Apart.{names}
 use Rattle.links.proofs.Replying.{link-answered, ask-answered}
 use Rattle.links_demands.proofs.replying.a_reply_goes_to_the_sender_alone.Statement.{statement}
 use Rattle.links_demands.proofs.replying.a_reply_goes_to_the_sender_alone.Tie as tie

@@ -1,8 +1,8 @@
 // The two modules that are heard for commands, each with its own unfinished sequence (01, "Links and commands").
 // specs/Ears says which each is; proofs/Apart that they are told apart.
 ghost use mathlib.Core.Path.{_≡_};
-ghost use Rattle.links_ears.specs.Ears.{nameOf, ownOf};
-use links_hearing::Unfinished;
+ghost use Rattle.links_hearing.specs.Ears.{nameOf, ownOf};
+use crate::Unfinished;
 use links_wiring::Module;
 
 pub enum Ear {

@@ -1,9 +1,9 @@
 -- The two modules that are heard for commands (01, "Links and commands"). Assumes nothing.
 use Rattle.links_wiring.specs.declared.Module.{Module}
 use Rattle.links_wiring.specs.declared.Module.the-variants.{Modem, Socket}
 use Rattle.links_hearing.specs.declared.Unfinished.{Unfinished}
-use Rattle.links_ears.specs.declared.Ear.{Ear}
-use Rattle.links_ears.specs.declared.Ear.the-variants.{Modem as modem, Socket as socket}
+use Rattle.links_hearing.specs.declared.ears.Ear.{Ear}
+use Rattle.links_hearing.specs.declared.ears.Ear.the-variants.{Modem as modem, Socket as socket}
 
 -- "Commands are heard from modem and socket only"
 abbrev pub nameOf : Ear → Module

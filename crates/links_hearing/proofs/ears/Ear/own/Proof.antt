@@ -1,7 +1,7 @@
--- `links_ears::Ear::own` meets its contract. Assumes nothing.
+-- `links_hearing::Ear::own` meets its contract. Assumes nothing.
 use borrow.Author.Needs.{needs}
-use Rattle.links_ears.proofs.Ear.own.Statement.{statement}
-use Rattle.links_ears.proofs.Ear.own.Tie as tie
+use Rattle.links_hearing.proofs.ears.Ear.own.Statement.{statement}
+use Rattle.links_hearing.proofs.ears.Ear.own.Tie as tie
 
 enum-told : tie.Need-enum-told
 enum-told c = search needs

@@ -1,9 +1,9 @@
 -- The two ears are told apart. Assumes nothing.
 use mathlib.Core.Path.{_≡_, refl}
 use Rattle.links_wiring.specs.declared.Module.the-variants.{Modem, Socket}
 use Rattle.links_hearing.specs.declared.Unfinished.{Unfinished}
-use Rattle.links_ears.specs.declared.Ear.the-variants.{Modem as modem, Socket as socket}
-use Rattle.links_ears.specs.Ears.{nameOf, ownOf}
+use Rattle.links_hearing.specs.declared.ears.Ear.the-variants.{Modem as modem, Socket as socket}
+use Rattle.links_hearing.specs.Ears.{nameOf, ownOf}
 
 -- each is the module of its name
 pub names : (nameOf modem ≡ Modem) × (nameOf socket ≡ Socket)

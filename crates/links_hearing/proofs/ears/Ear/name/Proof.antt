@@ -1,7 +1,7 @@
--- `links_ears::Ear::name` meets its contract. Assumes nothing.
+-- `links_hearing::Ear::name` meets its contract. Assumes nothing.
 use borrow.Author.Needs.{needs}
-use Rattle.links_ears.proofs.Ear.name.Statement.{statement}
-use Rattle.links_ears.proofs.Ear.name.Tie as tie
+use Rattle.links_hearing.proofs.ears.Ear.name.Statement.{statement}
+use Rattle.links_hearing.proofs.ears.Ear.name.Tie as tie
 
 enum-told : tie.Need-enum-told
 enum-told c = search needs
