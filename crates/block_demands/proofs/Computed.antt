@@ -12,7 +12,7 @@ use Rattle.block_validity.specs.Changed.{flip, hits, differences, distance}
 use Rattle.block_reader.specs.declared.Verdict.the-variants.{Clean, Mended}
 use Rattle.block_reader.specs.Judging.{verdict}
 use Rattle.block_reader.proofs.Verdicts.{right-is}
-use Rattle.block_reader.proofs.Alike.{same-verdict}
+use Rattle.block_reader.proofs.AsZeros.{same-verdict}
 
 pub four-off :
     Valid (replicate 17 0) × Valid (3 ∷ replicate 10 0 ++ (68 ∷ replicate 5 0))

@@ -1,4 +1,4 @@
 pub mod Verdicts
 pub mod Mending
 pub mod Handed
-pub mod Alike
+pub mod AsZeros

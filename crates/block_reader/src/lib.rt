@@ -4,7 +4,7 @@
 // specs/Judging says what it tells and leaves, for any bytes; nothing is asked of a caller. It is promised the long
 // way round (no change, then each mendable bit in turn) and finds its bit the short way, by the remainder and the
 // one byte of odd parity. proofs/Verdicts is the one door by which any judge is shown to be right, and has demand
-// 3; proofs/Alike shows that hits are judged alike in every valid block.
+// 3; proofs/AsZeros shows that hits are judged alike in every valid block.
 ghost use mathlib.Core.Path.{_≡_};
 ghost use Rattle.block_reader.specs.Judging.{judged, left, told};
 ghost use Rattle.block_reader.specs.Quick.{theOddOne};

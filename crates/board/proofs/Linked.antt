@@ -17,7 +17,7 @@ use Rattle.links_hearing.specs.Phrases.{Phrase, alone, escape, command, AllProp
 use Rattle.links_hearing.specs.declared.ears.Ear.the-variants.{Modem as modem}
 use Rattle.links.specs.declared.Links.{Links}
 use Rattle.links.specs.States.{unfinished}
-use Rattle.links.specs.Runs.{value, obey, Throughout, InRange, Says, freed}
+use Rattle.links.specs.Runs.{value, obey, Throughout, InLinks, Says, freed}
 use Rattle.links.proofs.Ranges.{kept}
 use Rattle.links.proofs.Own.{can-say}
 use Rattle.links.proofs.Flow.{plain-goes, pair-passes}
@@ -25,7 +25,7 @@ use Rattle.links.proofs.Replying.{codes-wait}
 use Rattle.board_feeding.specs.Feeding.{fromLine}
 use Rattle.board.specs.Pages.{NoCommand}
 
-pub stays-linked : (to : Module) (ps : List Phrase) (l : Links) → InRange l → unfinished l modem ≡ Free
+pub stays-linked : (to : Module) (ps : List Phrase) (l : Links) → InLinks l → unfinished l modem ≡ Free
     → reaches (l .table) Modem to ≡ true → AllProper ps → NoCommand ps → Values (allValues ps)
     → Throughout Modem to l (fromLine (allValues ps))
 stays-linked to [] l i f y p n h = tt
@@ -46,7 +46,7 @@ stays-linked to (escape v ∷ ps) l i f y p n h =
     (values-head v (allValues ps) rest) (p .0 .0) (p .0 .1) (p .0 .2) in
     let table : reaches (k .table) Modem to ≡ true = ap (λ (t : Table). reaches t Modem to) (waits .table) ∙ y in
     let after = stays-linked to ps (freed k modem)
-    (subst⁻¹ InRange (sym (passes .state)) (kept (value modem v) k (kept esc l i))) refl table (p .1) n
+    (subst⁻¹ InLinks (sym (passes .state)) (kept (value modem v) k (kept esc l i))) refl table (p .1) n
     (values-tail v (allValues ps) rest) in
     (y, (table, subst⁻¹ (λ (j : Links). Throughout Modem to j (fromLine (allValues ps))) (passes .state) after))
 stays-linked to (command c ∷ ps) l i f y p n h = absurd n

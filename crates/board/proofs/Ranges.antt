@@ -13,7 +13,7 @@ use Rattle.links_hearing.specs.declared.ears.Ear.the-variants.{Modem as modem, 
 use Rattle.line_receiver.specs.States.{inRange as receiverInRange}
 use Rattle.line_receiver.proofs.Kept.{new-in}
 use Rattle.links.specs.States.{unfinished, inRange as linksInRange}
-use Rattle.links.specs.Runs.{InRange as LinksIn}
+use Rattle.links.specs.Runs.{InLinks}
 use Rattle.links.proofs.Ranges.{not-true, passed, tested as links-tested}
 use Rattle.screen_page.specs.Ranges.{broken}
 use Rattle.screen_page.proofs.Stays.{true-screen, whole, unbroken, fresh-in-range}
@@ -25,7 +25,7 @@ pub tested : (b : Board) → InBoard b → inRange b ≡ true
 unfolding inRange
 tested b i = simp (i .receiver .range, passed (b .links) (i .links), unbroken (i .screen))
 
-fresh-links : LinksIn (freshBoard .links)
+fresh-links : InLinks (freshBoard .links)
 fresh-links = record { none-itself = alone; small = none }
   where
     alone : NoneItself (freshBoard .links .table)

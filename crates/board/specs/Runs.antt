@@ -8,7 +8,7 @@ use lib.Dec.{ltb}
 use lib.ListN.{take}
 use Rattle.numbers.specs.Numbers.{Told, toldOf}
 use Rattle.line_receiver.specs.declared.Receiver.{Receiver}
-use Rattle.line_receiver.specs.States.{InRange as ReceiverIn}
+use Rattle.line_receiver.specs.States.{InReceiver}
 use Rattle.line_receiver.specs.Runs.{Event as Heard, byte, on, off, ask, obey as receiverObey, sentBy}
 use Rattle.line_receiver.specs.Runs.{run as receiverRun, sent, allAsked}
 use Rattle.links_wiring.specs.declared.Module.{Module}
@@ -16,7 +16,7 @@ use Rattle.links_wiring.specs.declared.Module.the-variants.{Screen, Keyboard, M
 use Rattle.links_hearing.specs.declared.ears.Ear.the-variants.{Socket as fromSocket}
 use Rattle.links.specs.Runs.{Call, key as keyCall, value, toLocal as localCall, toConnected as connectedCall}
 use Rattle.links.specs.Runs.{run as linksRun}
-use Rattle.links.specs.Runs.{InRange as LinksIn}
+use Rattle.links.specs.Runs.{InLinks}
 use Rattle.board_feeding.specs.Feeding.{fromLine, got, contents}
 use Rattle.screen_page.specs.Ranges.{InScreen}
 use Rattle.screen_answers.specs.declared.Answer.the-variants.{Taken}
@@ -111,8 +111,8 @@ Outside Socket = Unit {0}
 
 -- each part in range
 pub record InBoard (b : Board) : Type 0 where
-  pub receiver : ReceiverIn (b .receiver)
-  pub links : LinksIn (b .links)
+  pub receiver : InReceiver (b .receiver)
+  pub links : InLinks (b .links)
   pub screen : InScreen (b .screen)
 
 -- from one board to another each part goes its own way: the receiver by what it hears, the links by their calls, the

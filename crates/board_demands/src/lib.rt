@@ -39,7 +39,7 @@ ghost use Rattle.board.specs.Runs.{Goes, InBoard, Unmoved, tooLarge, callTold};
 ghost use Rattle.board_front.specs.declared.Room.{Room};
 ghost use Rattle.board_front.specs.declared.Front.{Front};
 ghost use Rattle.board_front.specs.Ample.{Ample};
-ghost use Rattle.board_front.specs.Hearing.{heardBy, unheard};
+ghost use Rattle.board_front.specs.LineBytes.{heardBy, unheard};
 ghost use Rattle.board_pieces.specs.Pieces.{told as pieceTold, linesOf, linesTold, isTaken, singly, handed, asked};
 ghost use Rattle.board_pieces.specs.Pieces.{refused as pieceRefused};
 ghost use Rattle.board_pieces.specs.declared.Answer.the-variants.{NoRoom, Broken as PieceBroken};

@@ -31,7 +31,7 @@ use Rattle.board_feeding.specs.Feeding.{fromLine, got}
 use Rattle.board_feeding.proofs.Suffices.{few-got}
 use Rattle.board_front.specs.declared.Front.{Front}
 use Rattle.board_front.specs.declared.Room.{Room}
-use Rattle.board_front.specs.Hearing.{bytes, calls, toEach, asks}
+use Rattle.board_front.specs.LineBytes.{bytes, calls, toEach, asks}
 use Rattle.board_front.specs.Fitting.{within, needed}
 use Rattle.board_front.proofs.Rooms.{passes}
 use Rattle.board_front.specs.Ample.{Ample}

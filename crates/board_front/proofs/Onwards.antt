@@ -16,7 +16,7 @@ use Rattle.links.specs.Runs.{Call, value, run as linksRun}
 use Rattle.board_feeding.specs.Feeding.{fromLine, got, fed}
 use Rattle.board_feeding.proofs.Suffices.{run-append, got-append}
 use Rattle.board_front.specs.declared.Front.{Front}
-use Rattle.board_front.specs.Hearing.{heardBy, bytes, calls, behind, toEach, asks}
+use Rattle.board_front.specs.LineBytes.{heardBy, bytes, calls, behind, toEach, asks}
 
 -- ---- some bytes, then others
 

@@ -12,7 +12,7 @@ use Rattle.board_feeding.specs.Feeding.{got, nobody, fed}
 use Rattle.board_feeding.proofs.Refused.{broken-fed}
 use Rattle.board_front.specs.declared.Front.{Front}
 use Rattle.board_front.specs.declared.Heard.{Heard}
-use Rattle.board_front.specs.Hearing.{heardBy, unheard}
+use Rattle.board_front.specs.LineBytes.{heardBy, unheard}
 
 -- the receiver refuses the byte, and nothing is heard
 pub broken-receiver : (f : Front) (x : ℕ) → receiverInRange (f .receiver) ≡ false → heardBy f x ≡ unheard f

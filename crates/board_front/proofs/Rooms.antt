@@ -17,7 +17,7 @@ use Rattle.board_front.specs.declared.Front.{Front}
 use Rattle.board_front.specs.declared.Room.{Room}
 use Rattle.board_front.specs.declared.fitting.Left.{Left}
 use Rattle.board_front.specs.declared.fitting.Left.the-variants.{Enough, Short}
-use Rattle.board_front.specs.Hearing.{heardBy, behind, toEach, asks}
+use Rattle.board_front.specs.LineBytes.{heardBy, behind, toEach, asks}
 use Rattle.board_front.specs.Fitting.{within, needed, needsOf, more, less, leftOver}
 use Rattle.board_front.proofs.Onwards.{each-append, asks-append, brings, requests, each-one, asks-one}
 

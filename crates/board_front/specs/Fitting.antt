@@ -10,7 +10,7 @@ use Rattle.board_front.specs.declared.Heard.{Heard}
 use Rattle.board_front.specs.declared.Room.{Room}
 use Rattle.board_front.specs.declared.fitting.Left.{Left}
 use Rattle.board_front.specs.declared.fitting.Left.the-variants.{Enough, Short}
-use Rattle.board_front.specs.Hearing.{toEach, asks}
+use Rattle.board_front.specs.LineBytes.{toEach, asks}
 
 abbrev pub roomIn : List ℕ → List ℕ → List ℕ → List ℕ → Room
 roomIn k m s q = record { keyboard = length k; modem = length m; socket = length s; requests = length q }

@@ -1,3 +1,3 @@
-pub mod Hearing
+pub mod LineBytes
 pub mod Fitting
 pub mod Ample

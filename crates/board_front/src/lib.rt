@@ -2,12 +2,12 @@
 //
 // A byte goes through the receiver, and each value that this passes on is handed to the links as the modem's. A piece of
 // bytes takes room in four outputs, and can be heard for that alone, where these are not so long that any bytes fit.
-// specs/Hearing says what bytes come to, specs/Fitting what room that takes, specs/Ample which is surely enough;
+// specs/LineBytes says what bytes come to, specs/Fitting what room that takes, specs/Ample which is surely enough;
 // proofs/Onwards shows what one byte more brings, proofs/Rooms when there is room, and proofs/Amply that there is.
 ghost use mathlib.Core.Path.{_≡_};
 ghost use Prim.Native.Nat.{_≤_};
 ghost use Rattle.board_feeding.specs.Feeding.{Enough};
-ghost use Rattle.board_front.specs.Hearing.{heardBy};
+ghost use Rattle.board_front.specs.LineBytes.{heardBy};
 
 mod ample;
 mod fitting;

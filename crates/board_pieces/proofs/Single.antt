@@ -21,7 +21,7 @@ use Rattle.board.specs.Runs.{run, heardIn, callsIn, Outside, InBoard}
 use Rattle.board.proofs.Parts.{apart}
 use Rattle.board_pieces.specs.declared.Answer.the-variants.{Taken, NoRoom, Broken}
 use Rattle.board_front.specs.declared.Room.{Room}
-use Rattle.board_front.specs.Hearing.{heardBy, bytes, calls, toEach, asks}
+use Rattle.board_front.specs.LineBytes.{heardBy, bytes, calls, toEach, asks}
 use Rattle.board_front.specs.Fitting.{within, needed}
 use Rattle.board_pieces.specs.Pieces.{singly, handed, asked, yields, passage, refused, linesOf, isTaken}
 use Rattle.board_pieces.specs.Playing.{frontOf, heardWhole, played}

@@ -14,7 +14,7 @@ use Rattle.links.specs.Runs.{Call, run as linksRun}
 use Rattle.board_feeding.specs.Feeding.{fromLine, got}
 use Rattle.board_front.specs.declared.Front.{Front}
 use Rattle.board_front.specs.declared.Room.{Room}
-use Rattle.board_front.specs.Hearing.{bytes, calls, behind, toEach, asks}
+use Rattle.board_front.specs.LineBytes.{bytes, calls, behind, toEach, asks}
 use Rattle.board_front.specs.Fitting.{roomIn, needed}
 use Rattle.board_front.proofs.Onwards.{calls-are, behind-append, each-append, asks-append}
 use Rattle.board_front.proofs.Rooms.{Fits, beginning}

@@ -4,7 +4,7 @@ use Prim.Native.Nat.{ℕ}
 use Rattle.links_wiring.specs.declared.Module.the-variants.{Screen}
 use Rattle.screen.specs.Calls.{ran}
 use Rattle.board_front.specs.declared.Front.{Front}
-use Rattle.board_front.specs.Hearing.{behind, toEach}
+use Rattle.board_front.specs.LineBytes.{behind, toEach}
 use Rattle.board_front.specs.Fitting.{needed}
 use Rattle.board.specs.declared.Board.{Board}
 use Rattle.board_pieces.specs.declared.Answer.the-variants.{Taken}

@@ -6,7 +6,7 @@ ghost use Prim.Native.Nat.{_≤_};
 ghost use lib.ListN.{length, take};
 ghost use Rattle.screen_page.specs.Ranges.{InScreen};
 ghost use Rattle.screen.specs.Calls.{ran};
-ghost use Rattle.board_front.specs.Hearing.{toEach, asks};
+ghost use Rattle.board_front.specs.LineBytes.{toEach, asks};
 ghost use Rattle.board_front.specs.Fitting.{within, roomIn, needed};
 ghost use Rattle.line_turns.specs.Notes.{notesOf};
 ghost use Rattle.board_pieces.specs.Pieces.{leftIn};

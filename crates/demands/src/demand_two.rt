@@ -32,8 +32,8 @@ pub use screen_demands::changes::rep_is_single_characters;
 pub use screen_demands::changes::the_attributes_of_g1_are_never_inverse;
 pub use screen_demands::changes::us_starts_at_its_place_or_changes_nothing;
 pub use screen_demands::pieces::a_run_is_its_single_steps;
-pub use screen_demands::rows::lf_returns_from_row_0;
-pub use screen_demands::rows::no_move_crosses_into_row_0;
+pub use screen_demands::row_0::lf_returns_from_row_0;
+pub use screen_demands::row_0::no_move_crosses_into_row_0;
 
 // the links: what is passed on
 pub use links_demands::flow::all_but_the_commands_comes_through;

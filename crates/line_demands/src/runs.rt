@@ -18,7 +18,7 @@ ghost use Rattle.line_codes.specs.Codes.{numbers, syn, nack, four, request, End
 ghost use Rattle.line_phases.specs.declared.Phase.the-variants.{Off, Collecting, Waiting};
 ghost use Rattle.line_receiver.specs.declared.Receiver.{Receiver};
 ghost use Rattle.line_receiver.specs.declared.Judged.the-variants.{Nothing, Block};
-ghost use Rattle.line_receiver.specs.States.{InRange, emptied, newReceiver};
+ghost use Rattle.line_receiver.specs.States.{InReceiver, emptied, newReceiver};
 ghost use Rattle.line_receiver.specs.Calls.{silent, stepped, switchedOn, switchedOff, askedAgain};
 ghost use Rattle.line_receiver.specs.Runs.{Event, byte, on, obey, run, Sent, sentBy, sent, allPassed, allAsked};
 ghost use Rattle.line_receiver.specs.Runs.{switches, unswitched, bytesOf, blocksIn, blocksSince};
@@ -37,20 +37,20 @@ pub fn a_run_is_the_run_over_its_parts()
 // none, they are counted on from the number at the start. A call that is no switching moves it by the blocks accepted
 // there: by one, or not at all.
 pub fn the_number_counts_accepted_blocks()
-    ensures { λ _. ⌜ ((r : Receiver) → InRange r → (es : List Event)
+    ensures { λ _. ⌜ ((r : Receiver) → InReceiver r → (es : List Event)
         → run r es .number ≡ blocksSince (r .number) r es % 16) ⌝ }
     ensures anew { λ _. ⌜ ((es : List Event) → run newReceiver es .number ≡ blocksSince 0 newReceiver es % 16) ⌝ }
-    ensures moves { λ _. ⌜ ((r : Receiver) → InRange r → (e : Event) → switches e ≡ false
+    ensures moves { λ _. ⌜ ((r : Receiver) → InReceiver r → (e : Event) → switches e ≡ false
         → obey e r .next .number ≡ (r .number + blocksIn (sentBy (obey e r))) % 16) ⌝ }
 {}
 
 // Off, a value with parity passes as that value, and a byte of odd parity as 7/F; nothing else goes out, and the state
 // stays.
 pub fn while_off_each_byte_passes_by_itself()
-    ensures { λ _. ⌜ ((r : Receiver) → InRange r → r .phase ≡ Off → (v : ℕ) → v < 128
+    ensures { λ _. ⌜ ((r : Receiver) → InReceiver r → r .phase ≡ Off → (v : ℕ) → v < 128
         → (stepped r (withParity v) .next ≡ r)
         × (sentBy (stepped r (withParity v)) ≡ passes (v ∷ []) Nothing)) ⌝ }
-    ensures odd { λ _. ⌜ ((r : Receiver) → InRange r → r .phase ≡ Off → (b : ℕ) → even b ≡ false
+    ensures odd { λ _. ⌜ ((r : Receiver) → InReceiver r → r .phase ≡ Off → (b : ℕ) → even b ≡ false
         → (stepped r b .next ≡ r) × (sentBy (stepped r b) ≡ passes (127 ∷ []) Nothing)) ⌝ }
 {}
 
@@ -64,17 +64,17 @@ pub fn a_request_names_the_awaited_block()
         ∷ (149 ∷ 68 ∷ []) ∷ (149 ∷ 197 ∷ []) ∷ (149 ∷ 198 ∷ []) ∷ (149 ∷ 71 ∷ [])
         ∷ (149 ∷ 72 ∷ []) ∷ (149 ∷ 201 ∷ []) ∷ (149 ∷ 202 ∷ []) ∷ (149 ∷ 75 ∷ [])
         ∷ (149 ∷ 204 ∷ []) ∷ (149 ∷ 77 ∷ []) ∷ (149 ∷ 78 ∷ []) ∷ (149 ∷ 207 ∷ []) ∷ [] ⌝ }
-    ensures { λ _. ⌜ ((r : Receiver) → InRange r → (e : Event) → (sentBy (obey e r) .asked ≡ [])
+    ensures { λ _. ⌜ ((r : Receiver) → InReceiver r → (e : Event) → (sentBy (obey e r) .asked ≡ [])
         ⊎ ((sentBy (obey e r) .asked ≡ request (r .number)) × (obey e r .next .number ≡ r .number)
         × IsWaiting (obey e r .next))) ⌝ }
-    ensures again { λ _. ⌜ ((r : Receiver) → InRange r → (askedAgain r .next ≡ r)
+    ensures again { λ _. ⌜ ((r : Receiver) → InReceiver r → (askedAgain r .next ≡ r)
         × (sentBy (askedAgain r) ≡ askedIn (r .phase) (r .number))) ⌝ }
 {}
 
 // Every run follows the page, rule by rule: what goes out at each event, what was judged there, and where the
 // receiver stands, the bytes held being those since the stretch began. And the page says one thing only.
 pub fn every_run_follows_the_page()
-    ensures { λ _. ⌜ ((r : Receiver) → InRange r → (es : List Event)
+    ensures { λ _. ⌜ ((r : Receiver) → InReceiver r → (es : List Event)
         → (t : Stand) × Course (standOf r) es (sent r es) t × Stands (run r es) t) ⌝ }
     ensures once { λ _. ⌜ ((s t u : Stand) (es : List Event) (os ps : List Sent)
         → Course s es os t → Course s es ps u → (os ≡ ps) × (t ≡ u)) ⌝ }
@@ -96,7 +96,7 @@ pub fn each_seventeenth_byte_is_judged()
 // nothing goes out at a byte, and the request at each asking. The byte at which they first stand last sends nothing
 // and begins a stretch for block X. (A state handed in with n codes seen is as one that has just heard n SYN.)
 pub fn waiting_ends_at_the_first_resumption()
-    ensures { λ _. ⌜ ((r : Receiver) → InRange r → (n : ℕ) → r .phase ≡ Waiting n
+    ensures { λ _. ⌜ ((r : Receiver) → InReceiver r → (n : ℕ) → r .phase ≡ Waiting n
         → (ts : List Event) → unswitched ts ≡ true → Nowhere (r .number) (replicate n syn ++ bytesOf ts)
         → IsWaiting (run r ts) × (run r ts .number ≡ r .number) × (sent r ts ≡ map (whileWaiting (r .number)) ts)
         × ((b : ℕ) → Ends (r .number) (replicate n syn ++ bytesOf ts ++ (b ∷ []))
@@ -106,7 +106,7 @@ pub fn waiting_ends_at_the_first_resumption()
 // Switching on, also when on, gives collecting; switching off gives off; both with number 0, nothing held or seen,
 // and nothing goes out.
 pub fn switching_starts_afresh()
-    ensures { λ _. ⌜ ((r : Receiver) → InRange r → (switchedOn r ≡ silent (emptied 0 Collecting))
+    ensures { λ _. ⌜ ((r : Receiver) → InReceiver r → (switchedOn r ≡ silent (emptied 0 Collecting))
         × (switchedOff r ≡ silent (emptied 0 Off))) ⌝ }
 {}
 
@@ -125,18 +125,18 @@ pub fn places_past_the_held_never_matter()
 // SYN, SYN, 4/j itself: a block still on its way that did would end the waiting. Lines that meet this exist: the made
 // blocks themselves, each of them valid.
 pub fn the_line_comes_through_whole()
-    ensures { λ _. ⌜ ((r : Receiver) → InRange r → (vs bs : List ℕ) → Values vs → Arrives (madeOf vs) bs
+    ensures { λ _. ⌜ ((r : Receiver) → InReceiver r → (vs bs : List ℕ) → Values vs → Arrives (madeOf vs) bs
         → (allPassed (sent r (on ∷ map byte bs)) ≡ filled vs) × (allAsked (sent r (on ∷ map byte bs)) ≡ [])) ⌝ }
     ensures asked { λ _. ⌜ ((vs : List ℕ) (j : ℕ) (hit : List ℕ) → Values vs → j < blocksFor vs
         → length hit ≡ 17 → NoneNear hit
         → (before noise : List ℕ) → Arrives (take j (madeOf vs)) before → Nowhere (j % 16) noise
-        → (r : Receiver) → InRange r → let heard = before ++ hit ++ noise in
+        → (r : Receiver) → InReceiver r → let heard = before ++ hit ++ noise in
         (allPassed (sent r (on ∷ map byte heard)) ≡ take (15 * j) (filled vs))
         × (allAsked (sent r (on ∷ map byte heard)) ≡ request (j % 16))) ⌝ }
     ensures once { λ _. ⌜ ((vs : List ℕ) (j : ℕ) (hit : List ℕ) → Values vs → j < blocksFor vs
         → length hit ≡ 17 → NoneNear hit
         → (before noise : List ℕ) → Arrives (take j (madeOf vs)) before → Nowhere (j % 16) noise
-        → (r : Receiver) → InRange r → (after : List ℕ) → Arrives (drop j (madeOf vs)) after
+        → (r : Receiver) → InReceiver r → (after : List ℕ) → Arrives (drop j (madeOf vs)) after
         → let heard = before ++ hit ++ noise ++ (syn ∷ syn ∷ four (j % 16) ∷ after) in
         (allPassed (sent r (on ∷ map byte heard)) ≡ filled vs)
         × (allAsked (sent r (on ∷ map byte heard)) ≡ request (j % 16))) ⌝ }
@@ -149,7 +149,7 @@ pub fn the_line_comes_through_whole()
 // gone out for each of those refused, naming it. So a resent block is never taken for a new one. A valid block hit at
 // any two different bits of all 136 is so refused, and one hit once at a bit that is not mendable.
 pub fn a_resent_block_passes_once()
-    ensures { λ _. ⌜ ((r : Receiver) → InRange r → (vs bs qs : List ℕ) → Values vs → Sending 0 (madeOf vs) bs qs
+    ensures { λ _. ⌜ ((r : Receiver) → InReceiver r → (vs bs qs : List ℕ) → Values vs → Sending 0 (madeOf vs) bs qs
         → (allPassed (sent r (on ∷ map byte bs)) ≡ filled vs) × (allAsked (sent r (on ∷ map byte bs)) ≡ qs)) ⌝ }
     ensures twice { λ _. ⌜ ((W B : List ℕ) → Valid W → Twice W B → (length B ≡ 17) × NoneNear B) ⌝ }
     ensures alone { λ _. ⌜ ((W : List ℕ) (k : ℕ) → Valid W → mendable ≤ k → k < 136

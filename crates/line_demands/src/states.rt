@@ -7,7 +7,7 @@ ghost use lib.ListN.{drop, replicate};
 ghost use Rattle.numbers.specs.Numbers.{numberOf};
 ghost use Rattle.values.specs.Large.{Values};
 ghost use Rattle.line_receiver.specs.declared.Receiver.{Receiver};
-ghost use Rattle.line_receiver.specs.States.{inRange, InRange, callConditions, newReceiver};
+ghost use Rattle.line_receiver.specs.States.{inRange, InReceiver, callConditions, newReceiver};
 ghost use Rattle.line_phases.specs.declared.Phase.the-variants.{Off};
 ghost use Rattle.line_receiver.specs.Runs.{Event, obey, run, sentBy};
 ghost use Rattle.line_receiver.specs.Page.{nothing};
@@ -31,8 +31,8 @@ pub fn places_past_a_count_are_0()
 pub fn a_broken_state_is_handed_back()
     ensures { λ _. ⌜ ((r : Receiver) → inRange r ≡ false → (e : Event)
         → (obey e r .next ≡ r) × (obey e r .answer ≡ 5) × (sentBy (obey e r) ≡ nothing)) ⌝ }
-    ensures anew { λ _. ⌜ InRange newReceiver
+    ensures anew { λ _. ⌜ InReceiver newReceiver
         × (newReceiver .phase ≡ Off) × (newReceiver .number ≡ 0) × (newReceiver .count ≡ 0) ⌝ }
-    ensures runs { λ _. ⌜ ((r : Receiver) → InRange r → (es : List Event) → InRange (run r es)
+    ensures runs { λ _. ⌜ ((r : Receiver) → InReceiver r → (es : List Event) → InReceiver (run r es)
         × ((e : Event) → (obey e (run r es) .answer ≡ 0) × Values (sentBy (obey e (run r es)) .passed))) ⌝ }
 {}

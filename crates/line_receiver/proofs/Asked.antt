@@ -15,7 +15,7 @@ use Rattle.line_phases.specs.declared.Phase.{Phase}
 use Rattle.line_phases.specs.declared.Phase.the-variants.{Off, Collecting, Waiting}
 use Rattle.line_receiver.specs.declared.Receiver.{Receiver}
 use Rattle.line_receiver.specs.declared.Stepped.{Stepped}
-use Rattle.line_receiver.specs.States.{inRange, InRange}
+use Rattle.line_receiver.specs.States.{inRange, InReceiver}
 use Rattle.line_receiver.specs.Calls.{whole, accepts, judgedAs, byPhase, stepped, againBy, askedAgain}
 use Rattle.line_receiver.specs.Runs.{Event, byte, on, off, ask, obey, sentBy}
 use Rattle.line_receiver.specs.Standing.{askedIn, IsWaiting}
@@ -41,7 +41,7 @@ again-asked r Off f = inl refl
 again-asked r Collecting f = inl refl
 again-asked r (Waiting n) f = inr (refl, refl, (n, f))
 
-pub requests : (e : Event) (r : Receiver) → InRange r → Asked r (obey e r)
+pub requests : (e : Event) (r : Receiver) → InReceiver r → Asked r (obey e r)
 requests (byte b) r g = byte-asked r b (shape r b g)
 requests on r g = subst⁻¹ (Asked r) (on-afresh r g) (inl refl)
 requests off r g = subst⁻¹ (Asked r) (off-afresh r g) (inl refl)
@@ -52,7 +52,7 @@ again-sends Off r = refl
 again-sends Collecting r = refl
 again-sends (Waiting n) r = refl
 
-pub again-gives : (r : Receiver) → InRange r → sentBy (askedAgain r) ≡ askedIn (r .phase) (r .number)
+pub again-gives : (r : Receiver) → InReceiver r → sentBy (askedAgain r) ≡ askedIn (r .phase) (r .number)
 again-gives r g = ap sentBy (again-as r g) ∙ again-sends (r .phase) r
 
 -- ---- whatever the state

@@ -16,7 +16,7 @@ use Rattle.line_phases.specs.declared.Phase.{Phase}
 use Rattle.line_phases.specs.declared.Phase.the-variants.{Off, Collecting, Waiting}
 use Rattle.line_receiver.specs.declared.Receiver.{Receiver}
 use Rattle.line_receiver.specs.declared.Stepped.{Stepped}
-use Rattle.line_receiver.specs.States.{InRange}
+use Rattle.line_receiver.specs.States.{InReceiver}
 use Rattle.line_receiver.specs.Calls.{listening, stepped, againBy, askedAgain}
 use Rattle.line_receiver.specs.Runs.{Event, byte, on, off, ask, obey, run, sentBy, switches, blocksIn}
 use Rattle.line_receiver.specs.Runs.{blocksSince}
@@ -30,7 +30,7 @@ listening-number : (l : Listened) (r : Receiver) → listening l r .number ≡ r
 listening-number (Seen n) r = refl
 listening-number Resumed r = refl
 
-byte-moves : (r : Receiver) (b : ℕ) → InRange r → {s : Stepped} → Shape r b s
+byte-moves : (r : Receiver) (b : ℕ) → InReceiver r → {s : Stepped} → Shape r b s
     → s .next .number ≡ (r .number + blocksIn (sentBy s)) % 16
 byte-moves r b g (plain f) = let h : r .number < 16 = number-in r (g .range) in omega arith
 byte-moves r b g (more f k) = let h : r .number < 16 = number-in r (g .range) in omega arith
@@ -44,7 +44,7 @@ byte-moves r b g (listens n f) =
     listening-number (listened (r .number) n b) r ∙ omega arith
 
 -- asking again passes nothing
-ask-moves : (r : Receiver) → InRange r
+ask-moves : (r : Receiver) → InReceiver r
     → askedAgain r .next .number ≡ (r .number + blocksIn (sentBy (askedAgain r))) % 16
 ask-moves r g =
     let h : r .number < 16 = number-in r (g .range) in
@@ -58,7 +58,7 @@ ask-moves r g =
     none-in (Waiting n) = refl
 
 -- a call that is no switching moves it by the blocks accepted there: by one or not at all
-pub moves : (e : Event) (r : Receiver) → InRange r → switches e ≡ false
+pub moves : (e : Event) (r : Receiver) → InReceiver r → switches e ≡ false
     → obey e r .next .number ≡ (r .number + blocksIn (sentBy (obey e r))) % 16
 moves (byte b) r g u = byte-moves r b g (shape r b g)
 moves on r g u = absurd (fails u tt)
@@ -68,7 +68,7 @@ moves ask r g u = ask-moves r g
 added : (a n k : ℕ) → a ≡ n % 16 → (a + k) % 16 ≡ (n + k) % 16
 added a n k e = omega arith
 
-pub counts : (es : List Event) (n : ℕ) (r : Receiver) → InRange r → r .number ≡ n % 16
+pub counts : (es : List Event) (n : ℕ) (r : Receiver) → InReceiver r → r .number ≡ n % 16
     → run r es .number ≡ blocksSince n r es % 16
 counts [] n r g e = e
 counts (byte b ∷ es) n r g e =

@@ -22,10 +22,10 @@ use Rattle.line_phases.specs.declared.Phase.the-variants.{Off, Collecting, Wait
 use Rattle.line_receiver.specs.declared.Receiver.{Receiver}
 use Rattle.line_receiver.specs.declared.Judged.the-variants.{Nothing, Block}
 use Rattle.line_receiver.specs.declared.Stepped.{Stepped}
-use Rattle.line_receiver.specs.States.{InRange}
+use Rattle.line_receiver.specs.States.{InReceiver}
 use Rattle.line_receiver.specs.Calls.{silent, listening, askedAgain, stepped}
 use Rattle.line_receiver.specs.Runs.{Event, byte, on, off, ask, obey, run, Sent, sentBy, sent}
-use Rattle.line_receiver.specs.Page.{passes, asks, Stand, idle, midway, awaiting, Says, plain, held, taken}
+use Rattle.line_receiver.specs.Page.{passes, asks, Stand, idle, midway, awaiting, Rule, plain, held, taken}
 use Rattle.line_receiver.specs.Page.{refused, dropped, resumed, again, midwayAsk, idleAsk, switchedOn}
 use Rattle.line_receiver.specs.Page.{switchedOff, Course, done, next}
 use Rattle.line_receiver.specs.Standing.{standIn, standOf, Stands}
@@ -69,21 +69,21 @@ at-stands r idle a = a
 at-stands r (midway x h) a = a
 at-stands r (awaiting x ws) a = ((seenIn ws, a .0), a .1)
 
-stands-in : (r : Receiver) (p : Phase) → InRange r → r .phase ≡ p → At r (standIn p r)
+stands-in : (r : Receiver) (p : Phase) → InReceiver r → r .phase ≡ p → At r (standIn p r)
 stands-in r Off g f = f
 stands-in r Collecting g f =
     let h : r .count < 17 = count-in r (g .range) in
     (f, refl, sym (length-take-le (r .count) (r .held) (omega (arith, g .array))), refl)
 stands-in r (Waiting n) g f = (f ∙ ap Waiting (sym (seen-syns n (seen-in r (g .range) n f))), refl)
 
-stands-at : (r : Receiver) → InRange r → At r (standOf r)
+stands-at : (r : Receiver) → InReceiver r → At r (standOf r)
 stands-at r g = stands-in r (r .phase) g refl
 
 -- ---- one byte
 
 -- a rule sends what the call sends, and the receiver stands where the rule says
 abbrev pub Followed : Stand → Event → Stepped → Type 0
-Followed s e c = (t : Stand) × Says s e (sentBy c) t × At (c .next) t
+Followed s e c = (t : Stand) × Rule s e (sentBy c) t × At (c .next) t
 
 from-idle : (r : Receiver) (b : ℕ) → At r idle → {c : Stepped} → Shape r b c → Followed idle (byte b) c
 from-idle r b a (shapes.plain f) = (idle, plain, a)
@@ -98,7 +98,7 @@ pub arrived-is : (r : Receiver) (b : ℕ) (h : List ℕ) → take (r .count) (r 
 arrived-is r b h e k =
     ap (λ (l : List ℕ). l ++ (b ∷ [])) (ap (λ (n : ℕ). take n (r .held)) (sym k) ∙ e)
 
-from-midway : (r : Receiver) (b x : ℕ) (h : List ℕ) → InRange r → At r (midway x h) → {c : Stepped} → Shape r b c
+from-midway : (r : Receiver) (b x : ℕ) (h : List ℕ) → InReceiver r → At r (midway x h) → {c : Stepped} → Shape r b c
     → Followed (midway x h) (byte b) c
 from-midway r b x h g a (shapes.plain f) = other-phase Off Collecting f (a .0) refl
 from-midway r b x h g a (shapes.more f k) = (
@@ -114,7 +114,7 @@ from-midway r b x h g a (shapes.more f k) = (
 from-midway r b x h g a (shapes.took f k C o) =
     let e : arrived r b ≡ h ++ (b ∷ []) = arrived-is r b h (a .3) k in (
       midway ((x + 1) % 16) [],
-      subst⁻¹ (λ (s : Sent). Says (midway x h) (byte b) s (midway ((x + 1) % 16) []))
+      subst⁻¹ (λ (s : Sent). Rule (midway x h) (byte b) s (midway ((x + 1) % 16) []))
           (sent-accepted (r .number) (valuesOf C) (verdict (arrived r b))
           ∙ ap (λ (B : List ℕ). passes (valuesOf C) (Block (verdict B))) e)
           (taken (sym (a .2) ∙ k) (subst (λ (B : List ℕ). OnlyNear B C) e o)),
@@ -122,7 +122,7 @@ from-midway r b x h g a (shapes.took f k C o) =
     )
 from-midway r b x h g a (shapes.none f k o) = (
   awaiting x [],
-  subst⁻¹ (λ (n : ℕ). Says (midway x h) (byte b) (asks n (Block Repeat)) (awaiting x [])) (a .1)
+  subst⁻¹ (λ (n : ℕ). Rule (midway x h) (byte b) (asks n (Block Repeat)) (awaiting x [])) (a .1)
       (refused (sym (a .2) ∙ k) (subst NoneNear (arrived-is r b h (a .3) k) o)),
   (ap Waiting (sym (seen-syns 0 (omega arith))), a .1),
 )
@@ -158,23 +158,23 @@ from-awaiting r b x ws a (shapes.listens n f) =
 
 -- ---- any event
 
-byte-follows : (r : Receiver) (b : ℕ) (s : Stand) → InRange r → At r s → Followed s (byte b) (stepped r b)
+byte-follows : (r : Receiver) (b : ℕ) (s : Stand) → InReceiver r → At r s → Followed s (byte b) (stepped r b)
 byte-follows r b idle g a = from-idle r b a (shape r b g)
 byte-follows r b (midway x h) g a = from-midway r b x h g a (shape r b g)
 byte-follows r b (awaiting x ws) g a = from-awaiting r b x ws a (shape r b g)
 
-ask-follows : (r : Receiver) (s : Stand) → InRange r → At r s → Followed s ask (askedAgain r)
+ask-follows : (r : Receiver) (s : Stand) → InReceiver r → At r s → Followed s ask (askedAgain r)
 ask-follows r idle g a = subst (Followed idle ask) (again-in r Off (g .range) a) (idle, idleAsk, a)
 ask-follows r (midway x h) g a =
     subst (Followed (midway x h) ask) (again-in r Collecting (g .range) (a .0)) (midway x h, midwayAsk, a)
 ask-follows r (awaiting x ws) g a =
     subst (Followed (awaiting x ws) ask) (again-in r (Waiting (seenIn ws)) (g .range) (a .0)) (
       awaiting x ws,
-      subst⁻¹ (λ (n : ℕ). Says (awaiting x ws) ask (asks n Nothing) (awaiting x ws)) (a .1) again,
+      subst⁻¹ (λ (n : ℕ). Rule (awaiting x ws) ask (asks n Nothing) (awaiting x ws)) (a .1) again,
       a,
     )
 
-pub follows-one : (e : Event) (r : Receiver) (s : Stand) → InRange r → At r s → Followed s e (obey e r)
+pub follows-one : (e : Event) (r : Receiver) (s : Stand) → InReceiver r → At r s → Followed s e (obey e r)
 follows-one (byte b) r s g a = byte-follows r b s g a
 follows-one on r s g a =
     subst⁻¹ (Followed s on) (on-afresh r g) (midway 0 [], switchedOn, (refl, refl, refl, refl))
@@ -183,7 +183,7 @@ follows-one ask r s g a = ask-follows r s g a
 
 -- ---- a whole run
 
-follows-from : (es : List Event) (r : Receiver) (s : Stand) → InRange r → At r s
+follows-from : (es : List Event) (r : Receiver) (s : Stand) → InReceiver r → At r s
     → (t : Stand) × Course s es (sent r es) t × At (run r es) t
 follows-from [] r s g a = (s, done, a)
 follows-from (e ∷ es) r s g a =
@@ -191,7 +191,7 @@ follows-from (e ∷ es) r s g a =
     let i = follows-from es (obey e r .next) (f .0) (keeps e r g) (f .2) in
     (i .0, next (f .1) (i .1), i .2)
 
-pub follows : (r : Receiver) → InRange r → (es : List Event)
+pub follows : (r : Receiver) → InReceiver r → (es : List Event)
     → (t : Stand) × Course (standOf r) es (sent r es) t × Stands (run r es) t
 follows r g es =
     let i = follows-from es r (standOf r) g (stands-at r g) in (i .0, i .1, at-stands (run r es) (i .0) (i .2))

@@ -23,7 +23,7 @@ use Rattle.line_codes.proofs.Seen.{seen-syns, nowhere-syn}
 use Rattle.line_phases.specs.declared.Phase.the-variants.{Collecting, Waiting}
 use Rattle.line_receiver.specs.declared.Receiver.{Receiver}
 use Rattle.line_receiver.specs.declared.Stepped.{Stepped}
-use Rattle.line_receiver.specs.States.{InRange, emptied}
+use Rattle.line_receiver.specs.States.{InReceiver, emptied}
 use Rattle.line_receiver.specs.Calls.{padded, silent, stepped}
 use Rattle.line_receiver.specs.Runs.{byte, run, Sent, sentBy, sent, allPassed, allAsked, unswitched}
 use Rattle.line_receiver.specs.Runs.{bytesOf}
@@ -125,7 +125,7 @@ none-asked x [] = refl
 none-asked x (b ∷ bs) = none-asked x bs
 
 module _ (x : ℕ) (h : x < 16) where
-  begun : InRange (emptied x (Waiting 0)) × At (emptied x (Waiting 0)) (awaiting x [])
+  begun : InReceiver (emptied x (Waiting 0)) × At (emptied x (Waiting 0)) (awaiting x [])
   begun = (emptied-in x (Waiting 0) h refl, (ap Waiting (sym (seen-syns 0 (omega arith))), refl))
 
   dropped : (ws : List ℕ) → Nowhere x ws

@@ -16,7 +16,7 @@ use Rattle.line_phases.specs.Phases.{seenInRange}
 use Rattle.line_phases.specs.declared.Phase.the-variants.{Off, Collecting, Waiting}
 use Rattle.line_receiver.specs.declared.Receiver.{Receiver}
 use Rattle.line_receiver.specs.declared.Stepped.{Stepped}
-use Rattle.line_receiver.specs.States.{inRange, InRange, emptied, newReceiver}
+use Rattle.line_receiver.specs.States.{inRange, InReceiver, emptied, newReceiver}
 use Rattle.line_receiver.specs.Calls.{silent, refused, holding, waiting, listening, switchedOn, switchedOff}
 use Rattle.line_receiver.specs.Calls.{againBy, askedAgain}
 use Rattle.line_receiver.specs.Runs.{Event, byte, on, off, ask, obey, run, Sent, sentBy, sent, allAsked}
@@ -26,16 +26,16 @@ use Rattle.line_receiver.proofs.Shape.{Shape, plain, more, took, none, 
 
 -- ---- a byte
 
-pub emptied-in : (x : ℕ) (p : Phase) → x < 16 → seenInRange p ≡ true → InRange (emptied x p)
+pub emptied-in : (x : ℕ) (p : Phase) → x < 16 → seenInRange p ≡ true → InReceiver (emptied x p)
 emptied-in x p h s = record { range = in-range (emptied x p) h (omega arith) s; array = refl }
 
-pub new-in : InRange newReceiver
+pub new-in : InReceiver newReceiver
 new-in = emptied-in _ _ (omega arith) refl
 
-listened-in : (r : Receiver) (x n b : ℕ) → InRange r → InRange (listening (listened x n b) r)
+listened-in : (r : Receiver) (x n b : ℕ) → InReceiver r → InReceiver (listening (listened x n b) r)
 listened-in r x n b g = by (listened x n b) (listened-lt x n b)
   where
-    by : (l : Listened) → SeenBelow 3 l → InRange (listening l r)
+    by : (l : Listened) → SeenBelow 3 l → InReceiver (listening l r)
     by (Seen m) h =
         record {
           range = in-range (waiting r m) (number-in r (g .range)) (count-in r (g .range)) (lt-ltb m 3 h);
@@ -43,7 +43,7 @@ listened-in r x n b g = by (listened x n b) (listened-lt x n b)
         }
     by Resumed h = emptied-in (r .number) Collecting (number-in r (g .range)) refl
 
-byte-keeps : (r : Receiver) (b : ℕ) → InRange r → {s : Stepped} → Shape r b s → InRange (s .next)
+byte-keeps : (r : Receiver) (b : ℕ) → InReceiver r → {s : Stepped} → Shape r b s → InReceiver (s .next)
 byte-keeps r b g (plain f) = g
 byte-keeps r b g (more f k) =
     record {
@@ -58,7 +58,7 @@ byte-keeps r b g (listens n f) = listened-in r (r .number) n b g
 
 -- ---- the calls of the host
 
-module _ (r : Receiver) (g : InRange r) where
+module _ (r : Receiver) (g : InReceiver r) where
   pub on-afresh : switchedOn r ≡ silent (emptied 0 Collecting)
   on-afresh = ap (λ (t : Bool). cond t (silent (emptied 0 Collecting)) (refused r)) (g .range)
 
@@ -83,15 +83,15 @@ again-same r = go (inRange r)
 
 -- ---- runs
 
-pub keeps : (e : Event) (r : Receiver) → InRange r → InRange (obey e r .next)
+pub keeps : (e : Event) (r : Receiver) → InReceiver r → InReceiver (obey e r .next)
 keeps (byte b) r g = byte-keeps r b g (shape r b g)
 keeps on r g =
-    subst⁻¹ (λ (s : Stepped). InRange (s .next)) (on-afresh r g) (emptied-in 0 Collecting (omega arith) refl)
+    subst⁻¹ (λ (s : Stepped). InReceiver (s .next)) (on-afresh r g) (emptied-in 0 Collecting (omega arith) refl)
 keeps off r g =
-    subst⁻¹ (λ (s : Stepped). InRange (s .next)) (off-afresh r g) (emptied-in 0 Off (omega arith) refl)
-keeps ask r g = subst⁻¹ InRange (again-same r) g
+    subst⁻¹ (λ (s : Stepped). InReceiver (s .next)) (off-afresh r g) (emptied-in 0 Off (omega arith) refl)
+keeps ask r g = subst⁻¹ InReceiver (again-same r) g
 
-pub runs-keep : (es : List Event) (r : Receiver) → InRange r → InRange (run r es)
+pub runs-keep : (es : List Event) (r : Receiver) → InReceiver r → InReceiver (run r es)
 runs-keep [] r g = g
 runs-keep (e ∷ es) r g = runs-keep es (obey e r .next) (keeps e r g)
 

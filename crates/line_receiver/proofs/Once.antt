@@ -8,7 +8,7 @@ use Rattle.block_reader.specs.Judging.{verdict}
 use Rattle.block_reader.specs.Claims.{NoneNear, OnlyNear}
 use Rattle.line_receiver.specs.declared.Judged.the-variants.{Block}
 use Rattle.line_receiver.specs.Runs.{Event, Sent}
-use Rattle.line_receiver.specs.Page.{passes, Stand, Says, plain, held, taken, refused, dropped, resumed, again}
+use Rattle.line_receiver.specs.Page.{passes, Stand, Rule, plain, held, taken, refused, dropped, resumed, again}
 use Rattle.line_receiver.specs.Page.{midwayAsk, idleAsk, switchedOn, switchedOff, Course, done, next}
 
 pub same-block : {B C D : List ℕ} → OnlyNear B C → OnlyNear B D → C ≡ D
@@ -17,7 +17,7 @@ same-block {B} {C} {D} p q = q .only C (p .near) (p .isValid)
 pub not-both : {B C : List ℕ} → OnlyNear B C → NoneNear B → ⊥
 not-both {B} {C} p n = n C (p .near) (p .isValid)
 
-one-rule : {s t u : Stand} {e : Event} {o p : Sent} → Says s e o t → Says s e p u → (o ≡ p) × (t ≡ u)
+one-rule : {s t u : Stand} {e : Event} {o p : Sent} → Rule s e o t → Rule s e p u → (o ≡ p) × (t ≡ u)
 one-rule plain plain = (refl, refl)
 one-rule (held h) (held k) = (refl, refl)
 one-rule (held h) (taken k c) = absurd (omega (arith, h, k))

@@ -22,7 +22,7 @@ use Rattle.line_phases.specs.declared.Phase.the-variants.{Off, Collecting, Wait
 use Rattle.line_receiver.specs.declared.Receiver.{Receiver}
 use Rattle.line_receiver.specs.declared.Judged.the-variants.{Block}
 use Rattle.line_receiver.specs.declared.Stepped.{Stepped}
-use Rattle.line_receiver.specs.States.{inRange, InRange, emptied, callConditions}
+use Rattle.line_receiver.specs.States.{inRange, InReceiver, emptied, callConditions}
 use Rattle.line_receiver.specs.Calls.{silent, refused, holding, whole, accepted, repeated, accepts, judgedHeld}
 use Rattle.line_receiver.specs.Calls.{byPhase, againBy}
 use Rattle.line_receiver.specs.Runs.{Event, byte, on, off, ask, obey, Sent, sentBy}
@@ -122,7 +122,7 @@ again-fits r Off = (refl, none-fit)
 again-fits r Collecting = (refl, none-fit)
 again-fits r (Waiting n) = (refl, none-fit)
 
-pub fits : (e : Event) (r : Receiver) → InRange r → Fits (obey e r)
+pub fits : (e : Event) (r : Receiver) → InReceiver r → Fits (obey e r)
 fits (byte b) r g = byte-fits r b (shape r b g)
 fits on r g = subst⁻¹ Fits (on-afresh r g) (refl, none-fit)
 fits off r g = subst⁻¹ Fits (off-afresh r g) (refl, none-fit)

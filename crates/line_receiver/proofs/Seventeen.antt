@@ -13,10 +13,10 @@ use Rattle.line_phases.specs.declared.Phase.the-variants.{Off, Collecting, Wait
 use Rattle.line_receiver.specs.declared.Receiver.{Receiver}
 use Rattle.line_receiver.specs.declared.Judged.the-variants.{Block}
 use Rattle.line_receiver.specs.declared.Stepped.{Stepped}
-use Rattle.line_receiver.specs.States.{InRange, emptied}
+use Rattle.line_receiver.specs.States.{InReceiver, emptied}
 use Rattle.line_receiver.specs.Calls.{accepted, repeated, stepped}
 use Rattle.line_receiver.specs.Runs.{byte, run, Sent, sentBy, sent}
-use Rattle.line_receiver.specs.Page.{nothing, passes, asks, atLast, Stand, midway, Says, held, taken, refused}
+use Rattle.line_receiver.specs.Page.{nothing, passes, asks, atLast, Stand, midway, Rule, held, taken, refused}
 use Rattle.line_receiver.proofs.Shape as shapes
 use Rattle.line_receiver.proofs.Shape.{Shape, shape, arrived}
 use Rattle.line_receiver.proofs.Kept.{emptied-in, keeps, runs-keep, run-append, sent-append}
@@ -26,13 +26,13 @@ use Rattle.line_receiver.proofs.Once.{same-block, not-both}
 
 -- ---- bytes before the seventeenth
 
-only-held : {x b : ℕ} (h : List ℕ) {o : Sent} {t : Stand} → length h < 16 → Says (midway x h) (byte b) o t
+only-held : {x b : ℕ} (h : List ℕ) {o : Sent} {t : Stand} → length h < 16 → Rule (midway x h) (byte b) o t
     → (o ≡ nothing) × (t ≡ midway x (h ++ (b ∷ [])))
 only-held h l (held k) = (refl, refl)
 only-held h l (taken k c) = absurd (omega (arith, l, k))
 only-held h l (refused k c) = absurd (omega (arith, l, k))
 
-gathers : (vs h : List ℕ) (x : ℕ) (r : Receiver) → length h + length vs ≤ 16 → InRange r → At r (midway x h)
+gathers : (vs h : List ℕ) (x : ℕ) (r : Receiver) → length h + length vs ≤ 16 → InReceiver r → At r (midway x h)
     → At (run r (map byte vs)) (midway x (h ++ vs)) × (sent r (map byte vs) ≡ replicate (length vs) nothing)
 gathers [] h x r k g a = (subst⁻¹ (λ (l : List ℕ). At r (midway x l)) (append-nil h) a, refl)
 gathers (b ∷ vs) h x r k g a =
@@ -92,7 +92,7 @@ module _ (x : ℕ) (B : List ℕ) (lt : x < 16) (l : length B ≡ 17) where
   q : Receiver
   q = run r (map byte first)
 
-  r-in : InRange r
+  r-in : InReceiver r
   unfolding r
   r-in = emptied-in x Collecting lt refl
 

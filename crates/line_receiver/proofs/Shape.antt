@@ -21,7 +21,7 @@ use Rattle.line_phases.specs.declared.Phase.{Phase}
 use Rattle.line_phases.specs.declared.Phase.the-variants.{Off, Collecting, Waiting}
 use Rattle.line_receiver.specs.declared.Receiver.{Receiver}
 use Rattle.line_receiver.specs.declared.Stepped.{Stepped}
-use Rattle.line_receiver.specs.States.{InRange}
+use Rattle.line_receiver.specs.States.{InReceiver}
 use Rattle.line_receiver.specs.Calls.{silent, passing, holding, whole, accepted, repeated, accepts, judgedAs}
 use Rattle.line_receiver.specs.Calls.{judgedHeld, collecting, listening, byPhase, stepped}
 use Rattle.line_receiver.proofs.Ranges.{count-in}
@@ -51,7 +51,7 @@ whole-is r b e =
 
 -- ---- the shapes
 
-module _ (r : Receiver) (b : ℕ) (g : InRange r) where
+module _ (r : Receiver) (b : ℕ) (g : InReceiver r) where
   B : List ℕ
   B = arrived r b
 

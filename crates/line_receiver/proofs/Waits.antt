@@ -12,10 +12,10 @@ use Rattle.line_phases.specs.declared.Phase.the-variants.{Off, Collecting, Wait
 use Rattle.line_receiver.specs.declared.Receiver.{Receiver}
 use Rattle.line_receiver.specs.declared.Judged.the-variants.{Nothing}
 use Rattle.line_receiver.specs.declared.Stepped.{Stepped}
-use Rattle.line_receiver.specs.States.{InRange, emptied}
+use Rattle.line_receiver.specs.States.{InReceiver, emptied}
 use Rattle.line_receiver.specs.Calls.{silent, listening, stepped}
 use Rattle.line_receiver.specs.Runs.{Event, byte, on, off, ask, obey, run, Sent, sent, unswitched, bytesOf}
-use Rattle.line_receiver.specs.Page.{nothing, asks, whileWaiting, Stand, awaiting, Says, dropped, resumed}
+use Rattle.line_receiver.specs.Page.{nothing, asks, whileWaiting, Stand, awaiting, Rule, dropped, resumed}
 use Rattle.line_receiver.specs.Page.{again}
 use Rattle.line_receiver.specs.Standing.{IsWaiting}
 use Rattle.line_receiver.proofs.Ranges.{seen-in}
@@ -36,22 +36,22 @@ ends-it r b x ws a d (shapes.listens n f) =
     ap (λ (l : Listened). silent (listening l r)) (same-listened r b x n ws a f ∙ ended x ws b d)
     ∙ ap (λ (m : ℕ). silent (emptied m Collecting)) (a .1)
 
-pub resumes : (r : Receiver) (b x : ℕ) (ws : List ℕ) → InRange r → At r (awaiting x ws) → Ends x (ws ++ (b ∷ []))
+pub resumes : (r : Receiver) (b x : ℕ) (ws : List ℕ) → InReceiver r → At r (awaiting x ws) → Ends x (ws ++ (b ∷ []))
     → stepped r b ≡ silent (emptied x Collecting)
 resumes r b x ws g a d = ends-it r b x ws a d (shape r b g)
 
 -- ---- the events before it
 
 only-dropped : {x b : ℕ} {ws : List ℕ} {o : Sent} {t : Stand} → (Ends x (ws ++ (b ∷ [])) → ⊥)
-    → Says (awaiting x ws) (byte b) o t → (o ≡ nothing) × (t ≡ awaiting x (ws ++ (b ∷ [])))
+    → Rule (awaiting x ws) (byte b) o t → (o ≡ nothing) × (t ≡ awaiting x (ws ++ (b ∷ [])))
 only-dropped n (dropped m) = (refl, refl)
 only-dropped n (resumed d) = absurd (n d)
 
-only-again : {x : ℕ} {ws : List ℕ} {o : Sent} {t : Stand} → Says (awaiting x ws) ask o t
+only-again : {x : ℕ} {ws : List ℕ} {o : Sent} {t : Stand} → Rule (awaiting x ws) ask o t
     → (o ≡ asks x Nothing) × (t ≡ awaiting x ws)
 only-again again = (refl, refl)
 
-pub waits-on : (ts : List Event) (r : Receiver) (x : ℕ) (ws : List ℕ) → unswitched ts ≡ true → InRange r
+pub waits-on : (ts : List Event) (r : Receiver) (x : ℕ) (ws : List ℕ) → unswitched ts ≡ true → InReceiver r
     → At r (awaiting x ws) → Nowhere x (ws ++ bytesOf ts)
     → At (run r ts) (awaiting x (ws ++ bytesOf ts)) × (sent r ts ≡ map (whileWaiting x) ts)
 waits-on [] r x ws u g a n = (subst⁻¹ (λ (l : List ℕ). At r (awaiting x l)) (append-nil ws) a, refl)
@@ -74,7 +74,7 @@ waits-on (ask ∷ ts) r x ws u g a n =
 
 -- ---- from any state in range that waits
 
-pub waits : (r : Receiver) → InRange r → (n : ℕ) → r .phase ≡ Waiting n → (ts : List Event) → unswitched ts ≡ true
+pub waits : (r : Receiver) → InReceiver r → (n : ℕ) → r .phase ≡ Waiting n → (ts : List Event) → unswitched ts ≡ true
     → Nowhere (r .number) (replicate n syn ++ bytesOf ts)
     → IsWaiting (run r ts) × (run r ts .number ≡ r .number) × (sent r ts ≡ map (whileWaiting (r .number)) ts)
     × ((b : ℕ) → Ends (r .number) (replicate n syn ++ bytesOf ts ++ (b ∷ []))

@@ -10,7 +10,7 @@ use Rattle.line_phases.specs.declared.Phase.the-variants.{Off}
 use Rattle.line_receiver.specs.declared.Receiver.{Receiver}
 use Rattle.line_receiver.specs.declared.Judged.the-variants.{Nothing}
 use Rattle.line_receiver.specs.declared.Stepped.{Stepped}
-use Rattle.line_receiver.specs.States.{InRange, newReceiver}
+use Rattle.line_receiver.specs.States.{InReceiver, newReceiver}
 use Rattle.line_receiver.specs.Calls.{passing, stepped}
 use Rattle.line_receiver.specs.Runs.{sentBy}
 use Rattle.line_receiver.specs.Page.{passes}
@@ -20,7 +20,7 @@ use Rattle.line_receiver.proofs.Cases.{step-in}
 pub new-off : (newReceiver .phase ≡ Off) × (newReceiver .number ≡ 0) × (newReceiver .count ≡ 0)
 new-off = (refl, refl, refl)
 
-module _ (r : Receiver) (g : InRange r) (f : r .phase ≡ Off) where
+module _ (r : Receiver) (g : InReceiver r) (f : r .phase ≡ Off) where
   by-itself : (b v : ℕ) → plainly b ≡ v
       → (stepped r b .next ≡ r) × (sentBy (stepped r b) ≡ passes (v ∷ []) Nothing)
   by-itself b v e =

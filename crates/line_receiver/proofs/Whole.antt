@@ -17,7 +17,7 @@ use Rattle.line_codes.specs.Codes.{syn, four, request, Nowhere}
 use Rattle.line_phases.specs.declared.Phase.the-variants.{Collecting, Waiting}
 use Rattle.line_receiver.specs.declared.Receiver.{Receiver}
 use Rattle.line_receiver.specs.declared.Stepped.{Stepped}
-use Rattle.line_receiver.specs.States.{InRange, emptied}
+use Rattle.line_receiver.specs.States.{InReceiver, emptied}
 use Rattle.line_receiver.specs.Runs.{byte, on, sentBy, sent, allPassed, allAsked}
 use Rattle.line_receiver.specs.Line.{Twice, twice, Sending, through, resent}
 use Rattle.line_receiver.specs.Line.{blocksFor, fifteens, madeOf, filled, joined, Arrives, nothingMore}
@@ -29,7 +29,7 @@ use Rattle.line_receiver.proofs.Heard.{Hears, behind, blocks-heard, ref
 use Rattle.line_receiver.proofs.Heard.{resumption-heard}
 
 -- heard by a receiver just switched on
-module _ (r : Receiver) (g : InRange r) where
+module _ (r : Receiver) (g : InReceiver r) where
   on-heard : {bs vs qs : List ℕ} {q : Receiver} → Hears (emptied 0 Collecting) bs vs qs q
       → (allPassed (sent r (on ∷ map byte bs)) ≡ vs) × (allAsked (sent r (on ∷ map byte bs)) ≡ qs)
   on-heard {bs} k =
@@ -91,7 +91,7 @@ sending-heard {x} uss c h e
     (went .0, recast (again-is y (before ++ B) noise bs) (all-values j uss) all)
 
 -- each block passes once, and what is asked is what the sender is asked for
-pub sending : (r : Receiver) → InRange r → (vs bs qs : List ℕ) → Values vs → Sending 0 (madeOf vs) bs qs
+pub sending : (r : Receiver) → InReceiver r → (vs bs qs : List ℕ) → Values vs → Sending 0 (madeOf vs) bs qs
     → (allPassed (sent r (on ∷ map byte bs)) ≡ filled vs) × (allAsked (sent r (on ∷ map byte bs)) ≡ qs)
 sending r g vs bs qs f s =
     let i = sending-heard (fifteens (blocksFor vs) vs) (cut (blocksFor vs) vs f) (omega arith) refl s in
@@ -99,7 +99,7 @@ sending r g vs bs qs f s =
     (p .0 ∙ values-filled vs, p .1)
 
 -- all of them come through
-pub line-whole : (r : Receiver) → InRange r → (vs bs : List ℕ) → Values vs → Arrives (madeOf vs) bs
+pub line-whole : (r : Receiver) → InReceiver r → (vs bs : List ℕ) → Values vs → Arrives (madeOf vs) bs
     → (allPassed (sent r (on ∷ map byte bs)) ≡ filled vs) × (allAsked (sent r (on ∷ map byte bs)) ≡ [])
 line-whole r g vs bs f a = sending r g vs bs [] f (through a)
 
@@ -139,7 +139,7 @@ module _ (vs : List ℕ) (j : ℕ) (hit : List ℕ) (f : Values vs) (jn : j < bl
         ∙ first-values j uss uss-cut (omega (arith, uss-long)) ∙ ap (take (15 * j)) (values-filled vs)
 
     -- the blocks before it have passed and it is asked for, whatever else arrives before SYN, SYN, 4/j
-    pub asked-once : (r : Receiver) → InRange r
+    pub asked-once : (r : Receiver) → InReceiver r
         → (allPassed (sent r (on ∷ map byte (before ++ hit ++ noise))) ≡ take (15 * j) (filled vs))
         × (allAsked (sent r (on ∷ map byte (before ++ hit ++ noise))) ≡ request (j % 16))
     asked-once r g =
@@ -150,7 +150,7 @@ module _ (vs : List ℕ) (j : ℕ) (hit : List ℕ) (f : Values vs) (jn : j < bl
     begunAgain x after = before ++ hit ++ noise ++ (syn ∷ syn ∷ four x ∷ after)
 
     -- then it and the blocks behind it pass, and nothing more is asked
-    pub each-once : (r : Receiver) → InRange r → (after : List ℕ) → Arrives (drop j (madeOf vs)) after
+    pub each-once : (r : Receiver) → InReceiver r → (after : List ℕ) → Arrives (drop j (madeOf vs)) after
         → (allPassed (sent r (on ∷ map byte (begunAgain (j % 16) after))) ≡ filled vs)
         × (allAsked (sent r (on ∷ map byte (begunAgain (j % 16) after))) ≡ request (j % 16))
     each-once r g after aa =

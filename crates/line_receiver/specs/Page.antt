@@ -45,37 +45,37 @@ pub data Stand : Type 0 where
   midway : ℕ → List ℕ → Stand
   awaiting : ℕ → List ℕ → Stand
 
--- ---- the rules: `Says s e o t`, standing at s the event e sends o, and t is where the line stands then
+-- ---- the rules: `Rule s e o t`, standing at s the event e sends o, and t is where the line stands then
 
-pub data Says : Stand → Event → Sent → Stand → Type 0 where
+pub data Rule : Stand → Event → Sent → Stand → Type 0 where
   -- "Off: each byte is passed on with parity removed"
-  plain : {b : ℕ} → Says idle (byte b) (passes (plainly b ∷ []) Nothing) idle
+  plain : {b : ℕ} → Rule idle (byte b) (passes (plainly b ∷ []) Nothing) idle
   -- "Collecting: the byte is held"
   held : {x : ℕ} {h : List ℕ} {b : ℕ} → length h < 16
-      → Says (midway x h) (byte b) nothing (midway x (h ++ (b ∷ [])))
+      → Rule (midway x h) (byte b) nothing (midway x (h ++ (b ∷ [])))
   -- "At the 17th the block is judged. Clean or mended: its fifteen values are passed on .., the number rises by one":
   -- the values of the only valid block near, and a stretch begins for the next block
   taken : {x : ℕ} {h : List ℕ} {b : ℕ} {C : List ℕ} → length h ≡ 16 → OnlyNear (h ++ (b ∷ [])) C
-      → Says (midway x h) (byte b) (passes (valuesOf C) (Block (verdict (h ++ (b ∷ []))))) (midway ((x + 1) % 16) [])
+      → Rule (midway x h) (byte b) (passes (valuesOf C) (Block (verdict (h ++ (b ∷ []))))) (midway ((x + 1) % 16) [])
   -- "Repeat: nothing is passed on; the request .. goes to the modem": no valid block is near
   refused : {x : ℕ} {h : List ℕ} {b : ℕ} → length h ≡ 16 → NoneNear (h ++ (b ∷ []))
-      → Says (midway x h) (byte b) (asks x (Block Repeat)) (awaiting x [])
+      → Rule (midway x h) (byte b) (asks x (Block Repeat)) (awaiting x [])
   -- "Waiting: bytes are dropped until .."
   dropped : {x : ℕ} {ws : List ℕ} {b : ℕ} → (Ends x (ws ++ (b ∷ [])) → ⊥)
-      → Says (awaiting x ws) (byte b) nothing (awaiting x (ws ++ (b ∷ [])))
+      → Rule (awaiting x ws) (byte b) nothing (awaiting x (ws ++ (b ∷ [])))
   -- "Then collecting": a stretch begins for the same block
   resumed : {x : ℕ} {ws : List ℕ} {b : ℕ} → Ends x (ws ++ (b ∷ []))
-      → Says (awaiting x ws) (byte b) nothing (midway x [])
+      → Rule (awaiting x ws) (byte b) nothing (midway x [])
   -- "Ask again ..: in waiting it gives the same two request bytes and changes nothing; elsewhere it gives none"
-  again : {x : ℕ} {ws : List ℕ} → Says (awaiting x ws) ask (asks x Nothing) (awaiting x ws)
-  midwayAsk : {x : ℕ} {h : List ℕ} → Says (midway x h) ask nothing (midway x h)
-  idleAsk : Says idle ask nothing idle
+  again : {x : ℕ} {ws : List ℕ} → Rule (awaiting x ws) ask (asks x Nothing) (awaiting x ws)
+  midwayAsk : {x : ℕ} {h : List ℕ} → Rule (midway x h) ask nothing (midway x h)
+  idleAsk : Rule idle ask nothing idle
   -- "Switched on: collecting, number 0, nothing held or seen"; "Switching off, from any phase, gives off"
-  switchedOn : {s : Stand} → Says s on nothing (midway 0 [])
-  switchedOff : {s : Stand} → Says s off nothing idle
+  switchedOn : {s : Stand} → Rule s on nothing (midway 0 [])
+  switchedOff : {s : Stand} → Rule s off nothing idle
 
 -- a whole run: each event by a rule, from where the one before it left the line
 pub data Course : Stand → List Event → List Sent → Stand → Type 0 where
   done : {s : Stand} → Course s [] [] s
   next : {s t u : Stand} {e : Event} {o : Sent} {es : List Event} {os : List Sent}
-      → Says s e o t → Course t es os u → Course s (e ∷ es) (o ∷ os) u
+      → Rule s e o t → Course t es os u → Course s (e ∷ es) (o ∷ os) u

@@ -17,7 +17,7 @@ abbrev pub callConditions : Receiver → Conditions
 callConditions r = refusable (not (inRange r)) false
 
 -- a state in range, with its array of seventeen bytes: the array of every receiver has them, a list need not
-pub record InRange (r : Receiver) : Type 0 where
+pub record InReceiver (r : Receiver) : Type 0 where
   pub range : inRange r ≡ true
   pub array : length (r .held) ≡ 17
 

@@ -8,7 +8,7 @@ use Rattle.links_changes.specs.Linking.{linked}
 use Rattle.links_sending.specs.Sending.{obeyed}
 use Rattle.links.specs.States.{inRange}
 use Rattle.links.specs.Calls.{choosing, taking, fromEar, fromKeyboard}
-use Rattle.links.specs.Cards.{Card, EachHolds, asking, setting, clearing, selves, unknown, pairs, apart, typed}
+use Rattle.links.specs.Cards.{LinkCard, EachHolds, asking, setting, clearing, selves, unknown, pairs, apart, typed}
 use Rattle.links.specs.Cards.{flowing, chosen, refusals, together, linkCards}
 
 on-asking : EachHolds asking
@@ -57,15 +57,15 @@ on-refusals = (refl, (refl, (refl, (refl, (refl, tt)))))
 
 -- ---- all of them
 
-each-append : (cs ds : List Card) → EachHolds cs → EachHolds ds → EachHolds (cs ++ ds)
+each-append : (cs ds : List LinkCard) → EachHolds cs → EachHolds ds → EachHolds (cs ++ ds)
 each-append [] ds p q = q
 each-append (c ∷ cs) ds p q = (p .0, each-append cs ds (p .1) q)
 
-AllHold : List (List Card) → Type 0
+AllHold : List (List LinkCard) → Type 0
 AllHold [] = Unit {0}
 AllHold (cs ∷ css) = EachHolds cs × AllHold css
 
-all-together : (css : List (List Card)) → AllHold css → EachHolds (together css)
+all-together : (css : List (List LinkCard)) → AllHold css → EachHolds (together css)
 unfolding AllHold
 all-together [] p = tt
 all-together (cs ∷ css) p = each-append cs (together css) (p .0) (all-together css (p .1))

@@ -8,7 +8,7 @@ use Rattle.links_sending.specs.Sending.{silence}
 use Rattle.links.specs.declared.Links.{Links}
 use Rattle.links.specs.States.{localLinks, connectedLinks}
 use Rattle.links.specs.Calls.{taken, withTable}
-use Rattle.links.specs.Runs.{toLocal, toConnected, obey, InRange}
+use Rattle.links.specs.Runs.{toLocal, toConnected, obey, InLinks}
 use Rattle.links.proofs.Steps.{table-chosen}
 use Rattle.links.proofs.Ranges.{passed}
 
@@ -18,9 +18,9 @@ begins-local = local-statuses
 pub begins-connected : statusesOf (connectedLinks .table) ≡ 69 ∷ 66 ∷ 78 ∷ 76 ∷ []
 begins-connected = connected-statuses
 
-pub local-chosen : (l : Links) → InRange l → obey toLocal l ≡ taken (withTable l (localLinks .table)) silence
+pub local-chosen : (l : Links) → InLinks l → obey toLocal l ≡ taken (withTable l (localLinks .table)) silence
 local-chosen l r = table-chosen l localTable (passed l r)
 
-pub connected-chosen : (l : Links) → InRange l
+pub connected-chosen : (l : Links) → InLinks l
     → obey toConnected l ≡ taken (withTable l (connectedLinks .table)) silence
 connected-chosen l r = table-chosen l connectedTable (passed l r)

@@ -25,7 +25,7 @@ use Rattle.links.specs.declared.Outcome.{Outcome}
 use Rattle.links_hearing.specs.declared.ears.Ear.{Ear}
 use Rattle.links_hearing.specs.declared.ears.Ear.the-variants.{Modem as modem, Socket as socket}
 use Rattle.links.specs.States.{unfinished}
-use Rattle.links.specs.Runs.{sameEar, other, Call, value, obey, run, said, gotFrom, InRange, Says, Swallowed}
+use Rattle.links.specs.Runs.{sameEar, other, Call, value, obey, run, said, gotFrom, InLinks, Says, Swallowed}
 use Rattle.links.proofs.Steps.{accepted, own-heard}
 use Rattle.links.proofs.Ranges.{passed, kept}
 use Rattle.links.proofs.Own.{own, said-so}
@@ -60,7 +60,7 @@ either-way : (t : Bool) → cond {A = List ℕ} t [] [] ≡ []
 either-way true = refl
 either-way false = refl
 
-quiet : (e : Ear) (l : Links) (vs : List ℕ) → InRange l → Values vs → Orderless (unfinished l e) vs
+quiet : (e : Ear) (l : Links) (vs : List ℕ) → InLinks l → Values vs → Orderless (unfinished l e) vs
     → (run l (map (value e) vs) .table ≡ l .table) × ((m : Module) → gotFrom e m l (map (value e) vs) ≡ [])
 unfolding Orderless
 quiet e l [] r h o = (refl, λ m. refl)
@@ -96,7 +96,7 @@ same-links a b p q s =
     ∙ ap (λ (u : Unfinished). record { table = b .table; modem = b .modem; socket = u }) s
 
 -- with nothing unfinished before it, nothing is behind it
-own-over : (e : Ear) (l : Links) (x y : ℕ) → InRange l → unfinished l e ≡ Free → Values (spelled (pro3 99 x y))
+own-over : (e : Ear) (l : Links) (x y : ℕ) → InLinks l → unfinished l e ≡ Free → Values (spelled (pro3 99 x y))
     → unfinished (run l (map (value e) (spelled (pro3 99 x y)))) e ≡ unfinished l e
 own-over e l x y r f h =
     own l (map (value e) (spelled (pro3 99 x y))) e r
@@ -105,12 +105,12 @@ own-over e l x y r f h =
     ∙ over (pro3 99 x y)
     ∙ sym f
 
-others-stay : (e : Ear) (l : Links) (vs : List ℕ) → InRange l
+others-stay : (e : Ear) (l : Links) (vs : List ℕ) → InLinks l
     → unfinished (run l (map (value e) vs)) (other e) ≡ unfinished l (other e)
 others-stay e l vs r =
     own l (map (value e) vs) (other e) r ∙ ap (leftAfter (unfinished l (other e))) (unsaid e vs)
 
-as-before : (e : Ear) (l : Links) (x y : ℕ) → InRange l → unfinished l e ≡ Free → Values (spelled (pro3 99 x y))
+as-before : (e : Ear) (l : Links) (x y : ℕ) → InLinks l → unfinished l e ≡ Free → Values (spelled (pro3 99 x y))
     → (run l (map (value e) (spelled (pro3 99 x y))) ≡ l)
     × ((m : Module) → gotFrom e m l (map (value e) (spelled (pro3 99 x y))) ≡ [])
 as-before e l x y r f h =
@@ -125,7 +125,7 @@ as-before e l x y r f h =
     whole modem p a b = same-links (run l (map (value modem) (spelled (pro3 99 x y)))) l p a b
     whole socket p a b = same-links (run l (map (value socket) (spelled (pro3 99 x y)))) l p b a
 
-pub never-answered : (e : Ear) (l : Links) (t : Table) (receiver : Module) → InRange l → unfinished l e ≡ Free
+pub never-answered : (e : Ear) (l : Links) (t : Table) (receiver : Module) → InLinks l → unfinished l e ≡ Free
     → (run l (map (value e) (replyOf t receiver)) ≡ l)
     × ((m : Module) → gotFrom e m l (map (value e) (replyOf t receiver)) ≡ [])
 never-answered e l t r i f =

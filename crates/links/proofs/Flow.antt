@@ -22,7 +22,7 @@ use Rattle.links.specs.declared.Outcome.{Outcome}
 use Rattle.links.specs.Calls.{taking, fromEar}
 use Rattle.links_hearing.specs.Ears.{nameOf}
 use Rattle.links.specs.States.{unfinished, left}
-use Rattle.links.specs.Runs.{Call, key, value, run, InRange, Says, PassedOn, freed}
+use Rattle.links.specs.Runs.{Call, key, value, run, InLinks, Says, PassedOn, freed}
 use Rattle.links.proofs.Steps.{accepted, key-accepted}
 use Rattle.links.proofs.Ranges.{passed, run-kept}
 use Rattle.links.proofs.Own.{says-left}
@@ -48,7 +48,7 @@ restated : (l : Links) (c : Call) (m : Module) (vs : List ℕ) {a b : Links} →
     → PassedOn l c m vs a → PassedOn l c m vs b
 restated l c m vs e p = record { taken = p .taken; state = p .state ∙ e; reached = p .reached }
 
-pub plain-goes : (l : Links) (e : Ear) (v : ℕ) → InRange l → unfinished l e ≡ Free → v < 128 → (v ≡ 27 → ⊥)
+pub plain-goes : (l : Links) (e : Ear) (v : ℕ) → InLinks l → unfinished l e ≡ Free → v < 128 → (v ≡ 27 → ⊥)
     → PassedOn l (value e v) (nameOf e) (v ∷ []) l
 plain-goes l e v r f h n =
     restated l (value e v) (nameOf e) (v ∷ []) (free-already l e f)
@@ -56,7 +56,7 @@ plain-goes l e v r f h n =
     (accepted e l v (passed l r) h ∙ ap (λ (u : Unfinished). taking l e (heard u v)) f ∙ ap (taking l e) (plain v n))
     (table-after (l .table) (nameOf e) (Pass v)) (pass-goes (l .table) (nameOf e) v))
 
-pub key-goes : (l : Links) (v : ℕ) → InRange l → v < 128 → PassedOn l (key v) Keyboard (v ∷ []) l
+pub key-goes : (l : Links) (v : ℕ) → InLinks l → v < 128 → PassedOn l (key v) Keyboard (v ∷ []) l
 key-goes l v r h =
     let q = key-accepted l v (passed l r) h in
     record {

@@ -22,7 +22,7 @@ use Rattle.links.specs.declared.Outcome.{Outcome}
 use Rattle.links.specs.States.{unfinished, inRange, localLinks}
 use Rattle.links.specs.Calls.{choosing, fromEar}
 use Rattle.links.specs.Runs.{sameEar, Call, key, value, toLocal, toConnected, obey, run, saidAt, said}
-use Rattle.links.specs.Runs.{InRange, Says}
+use Rattle.links.specs.Runs.{InLinks, Says}
 use Rattle.links.proofs.Steps.{accepted, own-heard, other-heard, keys-change-nothing}
 use Rattle.links.proofs.Ranges.{passed, kept, local-in}
 use Rattle.links.proofs.Refusals.{large, small}
@@ -50,14 +50,14 @@ unfolding choosing
 left-by-choice modem l t = chosen (λ (o : Outcome). o .next .modem ≡ l .modem) (inRange l) (λ i. refl) (λ i. refl)
 left-by-choice socket l t = chosen (λ (o : Outcome). o .next .socket ≡ l .socket) (inRange l) (λ i. refl) (λ i. refl)
 
-pub own-call : (c : Call) (l : Links) (e : Ear) → InRange l
+pub own-call : (c : Call) (l : Links) (e : Ear) → InLinks l
     → unfinished (obey c l .next) e ≡ leftAfter (unfinished l e) (saidAt e c)
 own-call (key v) l e r = ap (λ (s : Links). unfinished s e) (keys-change-nothing l v)
 own-call (value f v) l e r = took e f l v (passed l r) (ltb 127 v) refl
 own-call toLocal l e r = left-by-choice e l localTable
 own-call toConnected l e r = left-by-choice e l connectedTable
 
-pub own : (l : Links) (cs : List Call) (e : Ear) → InRange l
+pub own : (l : Links) (cs : List Call) (e : Ear) → InLinks l
     → unfinished (run l cs) e ≡ leftAfter (unfinished l e) (said e cs)
 own l [] e r = refl
 own l (c ∷ cs) e r =

@@ -23,7 +23,7 @@ use Rattle.links.specs.declared.Outcome.{Outcome}
 use Rattle.links_hearing.specs.Ears.{nameOf}
 use Rattle.links.specs.States.{unfinished, starting, localLinks, connectedLinks, inRange}
 use Rattle.links.specs.Calls.{withTable, choosing, taking}
-use Rattle.links.specs.Runs.{Call, key, value, toLocal, toConnected, obey, run, InRange}
+use Rattle.links.specs.Runs.{Call, key, value, toLocal, toConnected, obey, run, InLinks}
 use Rattle.links.proofs.Steps.{accepted, keys-change-nothing}
 use Rattle.links.proofs.Refusals.{broken, large, small}
 
@@ -33,7 +33,7 @@ pub not-true : (t : Bool) → T (not t) → t ≡ false
 not-true true p = absurd p
 not-true false p = refl
 
-pub tested : (l : Links) → inRange l ≡ true → InRange l
+pub tested : (l : Links) → inRange l ≡ true → InLinks l
 unfolding inRange
 tested l e =
     let self = not (selfLinked (l .table)) in
@@ -51,7 +51,7 @@ tested l e =
     small a b modem = codes-tested (l .modem) a
     small a b socket = codes-tested (l .socket) b
 
-pub passed : (l : Links) → InRange l → inRange l ≡ true
+pub passed : (l : Links) → InLinks l → inRange l ≡ true
 unfolding inRange
 passed l r =
     simp (
@@ -62,21 +62,21 @@ passed l r =
 
 -- ---- every call keeps it
 
-with-table : (l : Links) (t : Table) → NoneItself t → InRange l → InRange (withTable l t)
+with-table : (l : Links) (t : Table) → NoneItself t → InLinks l → InLinks (withTable l t)
 with-table l t n r = record { none-itself = n; small = small }
   where
     small : (e : Ear) → Values (codesOf (unfinished (withTable l t) e))
     small modem = r .small modem
     small socket = r .small socket
 
-chosen-kept : (l : Links) (t : Table) → NoneItself t → InRange l → InRange (choosing l t .next)
+chosen-kept : (l : Links) (t : Table) → NoneItself t → InLinks l → InLinks (choosing l t .next)
 unfolding choosing
-chosen-kept l t n r = chosen (λ (o : Outcome). InRange (o .next)) (inRange l) (λ i. with-table l t n r) (λ i. r)
+chosen-kept l t n r = chosen (λ (o : Outcome). InLinks (o .next)) (inRange l) (λ i. with-table l t n r) (λ i. r)
 
 codes-still : (u : Unfinished) (v : ℕ) → Values (codesOf u) → v ≤ 127 → Values (codesOf (heard u v .unfinished))
 codes-still u v s h = codes-tested (heard u v .unfinished) (codes-kept u v (codes-passed u s) h)
 
-heard-kept : (l : Links) (e : Ear) (v : ℕ) → InRange l → v ≤ 127 → InRange (taking l e (heard (unfinished l e) v) .next)
+heard-kept : (l : Links) (e : Ear) (v : ℕ) → InLinks l → v ≤ 127 → InLinks (taking l e (heard (unfinished l e) v) .next)
 unfolding taking
 heard-kept l modem v r h =
     record {
@@ -98,11 +98,11 @@ heard-kept l socket v r h =
     small socket = codes-still (l .socket) v (r .small socket) h
 
 Keeps : Outcome → Type 0
-Keeps o = InRange (o .next)
+Keeps o = InLinks (o .next)
 
-pub kept : (c : Call) (l : Links) → InRange l → InRange (obey c l .next)
+pub kept : (c : Call) (l : Links) → InLinks l → InLinks (obey c l .next)
 unfolding Keeps
-kept (key v) l r = subst⁻¹ InRange (keys-change-nothing l v) r
+kept (key v) l r = subst⁻¹ InLinks (keys-change-nothing l v) r
 kept (value e v) l r = go (inRange l) (ltb 127 v) refl refl
   where
     go : (i t : Bool) → inRange l ≡ i → ltb 127 v ≡ t → Keeps (obey (value e v) l)
@@ -113,21 +113,21 @@ kept (value e v) l r = go (inRange l) (ltb 127 v) refl refl
 kept toLocal l r = chosen-kept l localTable local-none r
 kept toConnected l r = chosen-kept l connectedTable connected-none r
 
-pub run-kept : (l : Links) (cs : List Call) → InRange l → InRange (run l cs)
+pub run-kept : (l : Links) (cs : List Call) → InLinks l → InLinks (run l cs)
 run-kept l [] r = r
 run-kept l (c ∷ cs) r = run-kept (obey c l .next) cs (kept c l r)
 
 -- ---- where it begins
 
-begins : (t : Table) → NoneItself t → InRange (starting t)
+begins : (t : Table) → NoneItself t → InLinks (starting t)
 begins t n = record { none-itself = n; small = small }
   where
     small : (e : Ear) → Values (codesOf (unfinished (starting t) e))
     small modem = values-none
     small socket = values-none
 
-pub local-in : InRange localLinks
+pub local-in : InLinks localLinks
 local-in = begins localTable local-none
 
-pub connected-in : InRange connectedLinks
+pub connected-in : InLinks connectedLinks
 connected-in = begins connectedTable connected-none

@@ -29,7 +29,7 @@ use Rattle.links.specs.declared.Outcome.{Outcome}
 use Rattle.links_hearing.specs.Ears.{nameOf}
 use Rattle.links.specs.States.{localLinks, unfinished}
 use Rattle.links.specs.Runs.{Call, key, value, toLocal, toConnected, obey, given, isFrom, saidAt, said, gotFrom}
-use Rattle.links.specs.Runs.{Throughout, InRange, Says}
+use Rattle.links.specs.Runs.{Throughout, InLinks, Says}
 use Rattle.links.proofs.Steps.{accepted, sent-heard}
 use Rattle.links.proofs.Ranges.{passed, kept, local-in}
 use Rattle.links.proofs.Refusals.{large, small}
@@ -50,7 +50,7 @@ gets-passed t from (Ask receiver) r y d =
     ∙ ap (λ (b : Bool). cond b (replyOf (obeyed t from (Ask receiver) .table) receiver) []) d
 
 -- one value, taken or refused
-value-flow : (e : Ear) (l : Links) (v : ℕ) (m : Module) → InRange l → reaches (l .table) (nameOf e) m ≡ true
+value-flow : (e : Ear) (l : Links) (v : ℕ) (m : Module) → InLinks l → reaches (l .table) (nameOf e) m ≡ true
     → (t : Bool) → ltb 127 v ≡ t → given l (value e v) m ≡ flow (unfinished l e) (cond t [] (v ∷ []))
 value-flow e l v m r y true h =
     ap (λ (o : Outcome). gets (o .sent) m) (large (value e v) l (passed l r) h) ∙ gets-nothing m
@@ -62,7 +62,7 @@ value-flow e l v m r y false h =
     (reached-apart (l .table) (nameOf e) m (r .none-itself (nameOf e)) y)
     ∙ sym (append-nil (passedOn (p .order)))
 
-call-flow : (e : Ear) (l : Links) (c : Call) (m : Module) → InRange l → reaches (l .table) (nameOf e) m ≡ true
+call-flow : (e : Ear) (l : Links) (c : Call) (m : Module) → InLinks l → reaches (l .table) (nameOf e) m ≡ true
     → cond (isFrom e c) (given l c m) [] ≡ flow (unfinished l e) (saidAt e c)
 call-flow e l (key v) m r y = refl
 call-flow modem l (value modem v) m r y = value-flow modem l v m r y (ltb 127 v) refl
@@ -72,7 +72,7 @@ call-flow socket l (value socket v) m r y = value-flow socket l v m r y (ltb 127
 call-flow e l toLocal m r y = refl
 call-flow e l toConnected m r y = refl
 
-run-flow : (e : Ear) (l : Links) (cs : List Call) (m : Module) → InRange l → Throughout (nameOf e) m l cs
+run-flow : (e : Ear) (l : Links) (cs : List Call) (m : Module) → InLinks l → Throughout (nameOf e) m l cs
     → gotFrom e m l cs ≡ flow (unfinished l e) (said e cs)
 run-flow e l [] m r y = refl
 run-flow e l (c ∷ cs) m r y =

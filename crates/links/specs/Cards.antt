@@ -79,17 +79,17 @@ seen l cs =
 
 -- the state that it begins with and the calls; then the numbers, what screen, keyboard, modem and socket get, the table
 -- and what is unfinished
-pub data Card : Type 0 where
+pub data LinkCard : Type 0 where
   card :
       Links → List (Links → Outcome) → List ℕ → List ℕ → List ℕ → List ℕ → List ℕ → List (List Module)
-      → List (List ℕ) → Card
+      → List (List ℕ) → LinkCard
 
-abbrev pub Holds : Card → Type 0
+abbrev pub Holds : LinkCard → Type 0
 Holds (card l cs n a b c d t u) =
     seen l cs
     ≡ record { numbers = n; screen = a; keyboard = b; modem = c; socket = d; table = t; unfinished = u }
 
-abbrev pub EachHolds : List Card → Type 0
+abbrev pub EachHolds : List LinkCard → Type 0
 EachHolds [] = Unit {0}
 EachHolds (c ∷ cs) = Holds c × EachHolds cs
 
@@ -114,7 +114,7 @@ asConnected = [] ∷ (Modem ∷ []) ∷ (Screen ∷ Socket ∷ []) ∷ (Modem �
 
 -- ---- asking: PRO2, 6/2 and a receiver
 
-abbrev pub asking : List Card
+abbrev pub asking : List LinkCard
 asking =
     card localLinks
     (modem (27 ∷ 58 ∷ 98 ∷ 88 ∷ 27 ∷ 58 ∷ 98 ∷ 89 ∷ 27 ∷ 58 ∷ 98 ∷ 90 ∷ 27 ∷ 58 ∷ 98 ∷ 91 ∷ []))
@@ -133,7 +133,7 @@ asking =
 
 -- ---- setting: PRO3, 6/1, a receiver and a sender
 
-abbrev pub setting : List Card
+abbrev pub setting : List LinkCard
 setting =
     -- keyboard to screen, and a key
     card localLinks (modem (27 ∷ 59 ∷ 97 ∷ 88 ∷ 81 ∷ []) ++ keys (65 ∷ [])) (zeros 6) (65 ∷ []) []
@@ -159,7 +159,7 @@ setting =
 
 -- ---- clearing: PRO3, 6/0, a receiver and a sender
 
-abbrev pub clearing : List Card
+abbrev pub clearing : List LinkCard
 clearing =
     -- keyboard to modem, and a key
     card localLinks (socket (27 ∷ 59 ∷ 96 ∷ 90 ∷ 81 ∷ []) ++ keys (65 ∷ [])) (zeros 6) [] [] []
@@ -180,7 +180,7 @@ clearing =
 
 -- ---- "A module is never linked to itself; such a command answers with the status unchanged"
 
-abbrev pub selves : List Card
+abbrev pub selves : List LinkCard
 selves =
     card localLinks (modem (27 ∷ 59 ∷ 97 ∷ 88 ∷ 80 ∷ 27 ∷ 59 ∷ 96 ∷ 90 ∷ 82 ∷ [])) (zeros 10) [] []
     (27 ∷ 59 ∷ 99 ∷ 88 ∷ 77 ∷ 27 ∷ 59 ∷ 99 ∷ 90 ∷ 70 ∷ []) [] asLocal none
@@ -190,7 +190,7 @@ selves =
 
 -- ---- "Unknown commands are swallowed without reply", and just their codes
 
-abbrev pub unknown : List Card
+abbrev pub unknown : List LinkCard
 unknown =
     -- PRO1 takes one code, PRO2 two, PRO3 three, and the next value is passed on
     card localLinks (modem (27 ∷ 57 ∷ 123 ∷ 65 ∷ [])) (zeros 4) (65 ∷ []) [] [] [] asLocal none
@@ -216,7 +216,7 @@ unknown =
 
 -- ---- "ESC that begins no command is passed on with its next code, whatever that is"
 
-abbrev pub pairs : List Card
+abbrev pub pairs : List LinkCard
 pairs =
     card localLinks (modem (27 ∷ [])) (zeros 1) [] [] [] [] asLocal ((27 ∷ []) ∷ [] ∷ [])
     ∷ card localLinks (modem (27 ∷ 65 ∷ [])) (zeros 2) (27 ∷ 65 ∷ []) [] [] [] asLocal none
@@ -229,7 +229,7 @@ pairs =
 
 -- ---- "each of the two has its own unfinished sequence"
 
-abbrev pub apart : List Card
+abbrev pub apart : List LinkCard
 apart =
     -- the modem asks while the socket links, code by code
     card localLinks
@@ -256,7 +256,7 @@ apart =
 
 -- ---- "Commands are heard from modem and socket only"
 
-abbrev pub typed : List Card
+abbrev pub typed : List LinkCard
 typed =
     card localLinks (keys (27 ∷ 58 ∷ 98 ∷ 88 ∷ [])) (zeros 4) [] [] (27 ∷ 58 ∷ 98 ∷ 88 ∷ []) (27 ∷ 58 ∷ 98 ∷ 88 ∷ [])
     asLocal none
@@ -267,7 +267,7 @@ typed =
 
 -- ---- values by each table, and the host's choice
 
-abbrev pub flowing : List Card
+abbrev pub flowing : List LinkCard
 flowing =
     card localLinks (modem (65 ∷ []) ++ (socket (66 ∷ []) ++ keys (67 ∷ []))) (zeros 3) (65 ∷ 66 ∷ []) [] (67 ∷ [])
     (67 ∷ []) asLocal none
@@ -276,7 +276,7 @@ flowing =
     ∷ card localLinks (modem (0 ∷ 127 ∷ [])) (zeros 2) (0 ∷ 127 ∷ []) [] [] [] asLocal none
     ∷ []
 
-abbrev pub chosen : List Card
+abbrev pub chosen : List LinkCard
 chosen =
     card localLinks toConnected (zeros 1) [] [] [] [] asConnected none
     ∷ card connectedLinks toLocal (zeros 1) [] [] [] [] asLocal none
@@ -313,7 +313,7 @@ mirror =
 abbrev pub asMirror : List (List Module)
 asMirror = (Screen ∷ []) ∷ (Modem ∷ Socket ∷ []) ∷ (Screen ∷ []) ∷ (Screen ∷ []) ∷ []
 
-abbrev pub refusals : List Card
+abbrev pub refusals : List LinkCard
 refusals =
     card localLinks (modem (128 ∷ []) ++ (socket (200 ∷ []) ++ keys (255 ∷ []))) (2 ∷ 2 ∷ 2 ∷ []) [] [] [] [] asLocal
     none
@@ -331,11 +331,11 @@ refusals =
     (5 ∷ []) [] [] [] [] asLocal ((27 ∷ 59 ∷ 97 ∷ 216 ∷ []) ∷ [] ∷ [])
     ∷ []
 
-abbrev pub together : List (List Card) → List Card
+abbrev pub together : List (List LinkCard) → List LinkCard
 together [] = []
 together (cs ∷ css) = cs ++ together css
 
-abbrev pub linkCards : List Card
+abbrev pub linkCards : List LinkCard
 linkCards =
     together
     (asking ∷ setting ∷ clearing ∷ selves ∷ unknown ∷ pairs ∷ apart ∷ typed ∷ flowing ∷ chosen ∷ refusals ∷ [])

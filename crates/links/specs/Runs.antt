@@ -88,7 +88,7 @@ Throughout sender receiver l (c ∷ cs) =
 -- ---- ranges and numbers
 
 -- "A module is never linked to itself"; "each at most 127"
-pub record InRange (l : Links) : Type 0 where
+pub record InLinks (l : Links) : Type 0 where
   pub none-itself : NoneItself (l .table)
   pub small : (e : Ear) → Values (codesOf (unfinished l e))
 
@@ -108,7 +108,7 @@ callTold c l = toldOf (not (inRange l)) (tooLarge c) 0
 -- from a state in range with nothing unfinished from an ear, a run in which it says these values, whatever else is
 -- called in between
 pub record Says (e : Ear) (l : Links) (cs : List Call) (vs : List ℕ) : Type 0 where
-  pub range : InRange l
+  pub range : InLinks l
   pub free : unfinished l e ≡ Free
   pub values : said e cs ≡ vs
 

@@ -17,14 +17,14 @@ ghost use Rattle.links_hearing.specs.declared.ears.Ear.the-variants.{Modem as E
 ghost use Rattle.links_hearing.specs.Ears.{nameOf};
 ghost use Rattle.links.specs.States.{localLinks, unfinished};
 ghost use Rattle.links.specs.Runs.{Call, key, value, obey, run, gotFrom, Throughout};
-ghost use Rattle.links.specs.Runs.{InRange, Says, PassedOn, freed, Swallowed};
+ghost use Rattle.links.specs.Runs.{InLinks, Says, PassedOn, freed, Swallowed};
 
 // A value other than ESC from modem or socket with nothing unfinished, and any value from the keyboard, reaches just
 // the receivers that its sender is linked to, and changes no state.
 pub fn values_go_by_the_links()
-    ensures heard { λ _. ⌜ ((l : Links) (e : Ear) (v : ℕ) → InRange l → unfinished l e ≡ Free → v < 128 → (v ≡ 27 → ⊥)
+    ensures heard { λ _. ⌜ ((l : Links) (e : Ear) (v : ℕ) → InLinks l → unfinished l e ≡ Free → v < 128 → (v ≡ 27 → ⊥)
         → PassedOn l (value e v) (nameOf e) (v ∷ []) l) ⌝ }
-    ensures keys { λ _. ⌜ ((l : Links) (v : ℕ) → InRange l → v < 128 → PassedOn l (key v) Keyboard (v ∷ []) l) ⌝ }
+    ensures keys { λ _. ⌜ ((l : Links) (v : ℕ) → InLinks l → v < 128 → PassedOn l (key v) Keyboard (v ∷ []) l) ⌝ }
 {}
 
 // A value from the keyboard changes no state at all, whatever the value and the state.

@@ -21,7 +21,7 @@ ghost use Rattle.links_hearing.specs.declared.ears.Ear.{Ear};
 ghost use Rattle.links_hearing.specs.declared.ears.Ear.the-variants.{Modem as EarModem, Socket as EarSocket};
 ghost use Rattle.links_hearing.specs.Ears.{nameOf};
 ghost use Rattle.links.specs.States.{unfinished};
-ghost use Rattle.links.specs.Runs.{Call, value, obey, run, said, gotFrom, InRange, Says, Swallowed, Answered};
+ghost use Rattle.links.specs.Runs.{Call, value, obey, run, said, gotFrom, InLinks, Says, Swallowed, Answered};
 
 // PRO3 with 6/1 or 6/0, a receiver and a sender orders that link set or cleared, PRO2 with 6/2 and a receiver asks for
 // its status, and no other command orders anything. (A command is its beginning and its last code.)
@@ -96,7 +96,7 @@ pub fn a_reply_is_a_command_that_orders_nothing()
 pub fn a_reply_is_never_answered()
     ensures each { λ _. ⌜ ((e : Ear) (l : Links) (cs : List Call) (t : Table) (receiver : Module) (k : ℕ) → k < 5
         → Says e l cs (take k (replyOf t receiver)) → Swallowed (run l cs) e (getD (replyOf t receiver) k 0)) ⌝ }
-    ensures whole { λ _. ⌜ ((e : Ear) (l : Links) (t : Table) (receiver : Module) → InRange l → unfinished l e ≡ Free
+    ensures whole { λ _. ⌜ ((e : Ear) (l : Links) (t : Table) (receiver : Module) → InLinks l → unfinished l e ≡ Free
         → (run l (map (value e) (replyOf t receiver)) ≡ l)
         × ((m : Module) → gotFrom e m l (map (value e) (replyOf t receiver)) ≡ [])) ⌝ }
 {}
@@ -105,6 +105,6 @@ pub fn a_reply_is_never_answered()
 // run follows from what was, and from the values that it said itself; keys, the other one's values and the host's
 // choices have no part in it.
 pub fn each_has_its_own_sequence()
-    ensures { λ _. ⌜ ((l : Links) (cs : List Call) (e : Ear) → InRange l
+    ensures { λ _. ⌜ ((l : Links) (cs : List Call) (e : Ear) → InLinks l
         → unfinished (run l cs) e ≡ leftAfter (unfinished l e) (said e cs)) ⌝ }
 {}

@@ -14,7 +14,7 @@ ghost use Rattle.links.specs.declared.Answer.the-variants.{TooLarge, Broken};
 ghost use Rattle.links.specs.States.{localLinks, connectedLinks, inRange};
 ghost use Rattle.links.specs.Calls.{told, taken, refused, withTable, withLocal, withConnected};
 ghost use Rattle.links.specs.Calls.{fromKeyboard, fromModem, fromSocket};
-ghost use Rattle.links.specs.Runs.{Call, key, value, toLocal, toConnected, obey, run, InRange, tooLarge, callTold};
+ghost use Rattle.links.specs.Runs.{Call, key, value, toLocal, toConnected, obey, run, InLinks, tooLarge, callTold};
 
 // A call's number, and the place that it names, come of the paper's conditions in their order: 5 for a broken state,
 // then 2 for a value above 127, and else 0. After a refusal the state handed in comes back, and nothing is sent.
@@ -28,20 +28,20 @@ pub fn each_call_gives_its_number()
 // The links begin in range; from a state in range every run stays there, and no module is ever linked to itself. The
 // test that the calls make says exactly which states are in range.
 pub fn every_call_keeps_the_range()
-    ensures anew { λ _. ⌜ InRange localLinks × InRange connectedLinks ⌝ }
-    ensures runs { λ _. ⌜ ((l : Links) → InRange l → (cs : List Call) → InRange (run l cs)) ⌝ }
-    ensures never { λ _. ⌜ ((l : Links) → InRange l → (cs : List Call) (m : Module)
+    ensures anew { λ _. ⌜ InLinks localLinks × InLinks connectedLinks ⌝ }
+    ensures runs { λ _. ⌜ ((l : Links) → InLinks l → (cs : List Call) → InLinks (run l cs)) ⌝ }
+    ensures never { λ _. ⌜ ((l : Links) → InLinks l → (cs : List Call) (m : Module)
         → reaches (run l cs .table) m m ≡ false) ⌝ }
-    ensures tested { λ _. ⌜ ((l : Links) → InRange l → inRange l ≡ true) ⌝ }
-    ensures passed { λ _. ⌜ ((l : Links) → inRange l ≡ true → InRange l) ⌝ }
+    ensures tested { λ _. ⌜ ((l : Links) → InLinks l → inRange l ≡ true) ⌝ }
+    ensures passed { λ _. ⌜ ((l : Links) → inRange l ≡ true → InLinks l) ⌝ }
 {}
 
 // From a state in range the host chooses the table that the local links begin with, or the connected ones; what is
 // unfinished stays, and nothing is sent. The statuses of screen, keyboard, modem and socket are then these.
 pub fn the_host_chooses_a_table()
-    ensures local { λ _. ⌜ ((l : Links) → InRange l
+    ensures local { λ _. ⌜ ((l : Links) → InLinks l
         → obey toLocal l ≡ taken (withTable l (localLinks .table)) silence) ⌝ }
-    ensures connected { λ _. ⌜ ((l : Links) → InRange l
+    ensures connected { λ _. ⌜ ((l : Links) → InLinks l
         → obey toConnected l ≡ taken (withTable l (connectedLinks .table)) silence) ⌝ }
     ensures statuses { λ _. ⌜ (statusesOf (localLinks .table) ≡ 77 ∷ 66 ∷ 70 ∷ 74 ∷ [])
         × (statusesOf (connectedLinks .table) ≡ 69 ∷ 66 ∷ 78 ∷ 76 ∷ []) ⌝ }

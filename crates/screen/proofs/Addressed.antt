@@ -11,7 +11,7 @@ use Rattle.screen_cursor.specs.declared.Place.{Place}
 use Rattle.screen_cursor.specs.Places.{at}
 use Rattle.screen_sequences.specs.declared.Sequence.{Sequence}
 use Rattle.screen_sequences.specs.declared.Sequence.the-variants.{Free, Separator, Address, Row}
-use Rattle.screen_sequences.specs.Hearing.{control, opens}
+use Rattle.screen_sequences.specs.Sequences.{control, opens}
 use Rattle.screen_sequences.proofs.Codes.{heard-code, heard-control}
 use Rattle.screen_pen.specs.declared.Pen.{Pen}
 use Rattle.screen_planning.specs.Naming.{Names}

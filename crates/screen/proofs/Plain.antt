@@ -9,7 +9,7 @@ use Rattle.laws.proofs.Computed.{holds, Each, each}
 use Rattle.screen_cursor.specs.declared.Place.{Place}
 use Rattle.screen_cursor.specs.Places.{at}
 use Rattle.screen_motion.specs.Moves.{rowBelow}
-use Rattle.screen_sequences.specs.Hearing.{isFree}
+use Rattle.screen_sequences.specs.Sequences.{isFree}
 use Rattle.screen_attributes.specs.declared.Waiting.{Waiting}
 use Rattle.screen_attributes.specs.declared.Waiting.the-variants.{Nothing, Ground}
 use Rattle.screen_attributes.specs.declared.Attributes.{Attributes}

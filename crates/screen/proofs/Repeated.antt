@@ -5,7 +5,7 @@ use Rattle.laws.proofs.Computed.{holds, fails}
 use Rattle.screen_sequences.specs.declared.Sequence.{Sequence}
 use Rattle.screen_sequences.specs.declared.Sequence.the-variants.{Free, Separator, Repeat, Single}
 use Rattle.screen_sequences.specs.declared.Order.the-variants.{Skip, Second, Again}
-use Rattle.screen_sequences.specs.Hearing.{isFree, isSeparator, does, control, heard}
+use Rattle.screen_sequences.specs.Sequences.{isFree, isSeparator, does, control, heard}
 use Rattle.screen_sequences.proofs.Codes.{heard-control, heard-dropped, heard-repeat, heard-low}
 use Rattle.screen_sequences.proofs.Codes.{heard-second, heard-swallowed}
 use Rattle.screen_pen.specs.declared.Last.{Last}

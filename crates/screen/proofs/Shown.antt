@@ -17,7 +17,7 @@ use Rattle.screen_cells.specs.declared.Cell.{Cell}
 use Rattle.screen_cells.specs.Characters.{blankOf}
 use Rattle.screen_attributes.specs.declared.Attributes.{Attributes}
 use Rattle.screen_writing.specs.Writing.{afterWriting}
-use Rattle.screen_writing.specs.Having.{Has, Alike}
+use Rattle.screen_writing.specs.Having.{Has, AlikeButGround}
 use Rattle.screen_writing.proofs.Cells.{written-has, written-alike}
 use Rattle.screen_writing.proofs.Takers.{written-twice}
 use Rattle.screen_pen.specs.declared.Last.the-variants.{Character}
@@ -54,7 +54,7 @@ character-there s a d h =
 -- and it moves the cursor right, is the last character, and leaves all but the grounds
 pub character-leaves : (s : Screen) (a d : ℕ)
     → (written s a d .pen .place ≡ rightOf (s .pen .place)) × (written s a d .pen .last ≡ Character a d)
-    × Alike (s .pen .attributes) (written s a d .pen .attributes)
+    × AlikeButGround (s .pen .attributes) (written s a d .pen .attributes)
 unfolding written
 character-leaves s a d = (refl, refl, written-alike (s .pen .attributes) a d)
 
@@ -82,7 +82,7 @@ module _ (s : Screen) (a d : ℕ) (h : On (s .pen .place)) (l : length (s .cells
   on n = subst⁻¹ On (times-place s a d n) (moved-on n h)
 
   -- ink, flash and inverse stay
-  alike : (n : ℕ) → Alike (s .pen .attributes) (after n .pen .attributes)
+  alike : (n : ℕ) → AlikeButGround (s .pen .attributes) (after n .pen .attributes)
   unfolding writtenTimes written
   alike zero = record { set = refl; ink = refl; flash = refl; inverse = refl }
   alike (suc n) =

@@ -18,7 +18,7 @@ use Rattle.screen_motion.specs.Moves.{rightOf}
 use Rattle.screen_motion.proofs.Stays.{right-on}
 use Rattle.screen_sequences.specs.declared.Sequence.{Sequence}
 use Rattle.screen_sequences.specs.declared.Sequence.the-variants.{Separator}
-use Rattle.screen_sequences.specs.Hearing.{isSeparator, control}
+use Rattle.screen_sequences.specs.Sequences.{isSeparator, control}
 use Rattle.screen_sequences.proofs.Codes.{heard-control}
 use Rattle.screen_cells.specs.declared.Cell.{Cell}
 use Rattle.screen_cells.specs.Characters.{blankOf}

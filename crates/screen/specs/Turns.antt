@@ -3,7 +3,7 @@ use mathlib.Core.Bool.{Bool, true, false, _&&_, cond}
 use Prim.Native.Nat.{ℕ}
 use lib.Dec.{ltb, eqb}
 use Rattle.screen_cursor.specs.Places.{indexOf}
-use Rattle.screen_sequences.specs.Hearing.{isFree}
+use Rattle.screen_sequences.specs.Sequences.{isFree}
 use Rattle.screen_attributes.specs.declared.Waiting.{Waiting}
 use Rattle.screen_attributes.specs.declared.Waiting.the-variants.{Nothing, Ground}
 use Rattle.screen_pen.specs.declared.Pen.{Pen}

@@ -1,5 +1,5 @@
 // What a call on the screen answers (01, "Numbers given"): a broken state goes before a value too large. specs/Answers
-// says which answer comes of the conditions, proofs/Cases writes some out, and proofs/Given shows that the answer has
+// says which answer comes of the conditions, proofs/Written writes some out, and proofs/Given shows that the answer has
 // the number that the paper gives them.
 ghost use mathlib.Core.Path.{_≡_};
 ghost use Rattle.screen_answers.specs.Answers.{answerTo};

@@ -1,7 +1,7 @@
 // The attributes in force (01, "Screen cells"): those at the start, and SO and SI. `screen_escapes` has what ESC does
 // to them, and `screen_writing` the character that is written with them.
 //
-// specs/Attributing says what changes them, specs/Within what is in range; proofs/Cases writes the start, SO and SI
+// specs/Attributing says what changes them, specs/Within what is in range; proofs/Written writes the start, SO and SI
 // out, proofs/Stays shows that attributes in range stay so, and proofs/Mosaics that nothing is inverse while G1 is
 // current.
 ghost use mathlib.Core.Path.{_≡_};

@@ -1,7 +1,7 @@
 // A cell of the screen (01, "Screen cells"), and what a character on it is. `screen_sheet` has all thousand of them.
 //
 // Sets, codes and colours are numbers, so that any can be handed in; the tests say which are in range. specs/Characters
-// says what a blank cell is, specs/Within what is in range; proofs/Tested ties the test to it, and proofs/Cases writes
+// says what a blank cell is, specs/Within what is in range; proofs/Tested ties the test to it, and proofs/Written writes
 // both out.
 ghost use mathlib.Core.Path.{_≡_};
 ghost use Rattle.screen_cells.specs.Characters.{blankOf};

@@ -13,7 +13,7 @@ ghost use Rattle.screen_sequences.specs.declared.Sequence.the-variants.{Free, S
 ghost use Rattle.screen_cells.specs.Characters.{blankOf};
 ghost use Rattle.screen_attributes.specs.Attributing.{grounds, Upright};
 ghost use Rattle.screen_writing.specs.Writing.{takes};
-ghost use Rattle.screen_writing.specs.Having.{Has, Alike};
+ghost use Rattle.screen_writing.specs.Having.{Has, AlikeButGround};
 ghost use Rattle.screen_pen.specs.declared.Last.the-variants.{Never, Character};
 ghost use Rattle.screen_planning.specs.Planning.{ordered};
 ghost use Rattle.screen_planning.specs.Grounds.{fate, outcome};
@@ -58,7 +58,7 @@ pub fn rep_is_single_characters()
         (written s a d .pen .attributes .ground)) ⌝ }
     ensures leaves { λ _. ⌜ ((s : Screen) (a d : ℕ) → (written s a d .pen .place ≡ rightOf (s .pen .place))
         × (written s a d .pen .last ≡ Character a d)
-        × Alike (s .pen .attributes) (written s a d .pen .attributes)) ⌝ }
+        × AlikeButGround (s .pen .attributes) (written s a d .pen .attributes)) ⌝ }
     ensures again { λ _. ⌜ ((s : Screen) (a d n : ℕ) → s .pen .sequence ≡ Repeat → s .pen .last ≡ Character a d → 64 ≤ n
         → advanced s n ≡ writtenTimes (ended s) a d (n - 64)) ⌝ }
     ensures each { λ _. ⌜ ((s : Screen) (a d n : ℕ) (x : Place) → InScreen s → s .pen .sequence ≡ Repeat

@@ -3,5 +3,5 @@
 // define. It is proved in those crates, whose words it speaks.
 pub mod changes;
 pub mod pieces;
-pub mod rows;
+pub mod row_0;
 pub mod states;

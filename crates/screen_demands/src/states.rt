@@ -9,7 +9,7 @@ ghost use Rattle.values.specs.Large.{firstLarge};
 ghost use Rattle.screen_cursor.specs.declared.Place.{Place};
 ghost use Rattle.screen_cursor.specs.Places.{at, On};
 ghost use Rattle.screen_sequences.specs.declared.Sequence.{Sequence};
-ghost use Rattle.screen_sequences.specs.Hearing.{inRange};
+ghost use Rattle.screen_sequences.specs.Sequences.{inRange};
 ghost use Rattle.screen_sequences.specs.Opening.{LeftOpen};
 ghost use Rattle.screen_cells.specs.Characters.{blankOf};
 ghost use Rattle.screen_page.specs.declared.Screen.{Screen};

@@ -1,4 +1,4 @@
-pub mod Cases
+pub mod Written
 pub mod Stays
 pub mod Grounds
 pub mod Mosaics

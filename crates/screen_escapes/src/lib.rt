@@ -1,6 +1,6 @@
 // What ESC and a code do to the attributes in force (01, "Screen cells").
 //
-// specs/Pairing says what each pair does; proofs/Cases writes pairs out, proofs/Stays shows that attributes in range
+// specs/Pairing says what each pair does; proofs/Written writes pairs out, proofs/Stays shows that attributes in range
 // stay so, proofs/Grounds what a pair does to grounds, and proofs/Mosaics that none makes G1 inverse.
 ghost use mathlib.Core.Path.{_≡_};
 ghost use Rattle.screen_escapes.specs.Pairing.{waitsFor, columnFour, columnFive, paired};

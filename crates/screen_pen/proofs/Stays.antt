@@ -8,7 +8,7 @@ use Rattle.screen_cursor.specs.declared.Place.{Place}
 use Rattle.screen_cursor.specs.Places.{On, onScreen}
 use Rattle.screen_cursor.proofs.Tested.{on-true, true-on, home-on}
 use Rattle.screen_motion.proofs.Stays.{right-on}
-use Rattle.screen_sequences.specs.Hearing.{inRange as goodSequence}
+use Rattle.screen_sequences.specs.Sequences.{inRange as goodSequence}
 use Rattle.screen_cells.specs.Within.{Character, InCell}
 use Rattle.screen_cells.proofs.Tested.{character-true, true-character}
 use Rattle.screen_attributes.specs.declared.Attributes.{Attributes}

@@ -4,7 +4,7 @@ use mathlib.Core.Bool.{Bool, true, false, _&&_}
 use Rattle.screen_cursor.specs.declared.Place.{Place}
 use Rattle.screen_cursor.specs.Places.{home, onScreen, On}
 use Rattle.screen_sequences.specs.declared.Sequence.the-variants.{Free}
-use Rattle.screen_sequences.specs.Hearing.{inRange as goodSequence}
+use Rattle.screen_sequences.specs.Sequences.{inRange as goodSequence}
 use Rattle.screen_cells.specs.Within.{goodCharacter, Character}
 use Rattle.screen_attributes.specs.declared.Attributes.{Attributes}
 use Rattle.screen_attributes.specs.Attributing.{startOf}

@@ -14,7 +14,7 @@ use Rattle.screen_addresses.specs.Addressing.{good, addressed}
 use Rattle.screen_sequences.specs.declared.Sequence.{Sequence}
 use Rattle.screen_sequences.specs.declared.Sequence.the-variants.{Free, Row}
 use Rattle.screen_sequences.specs.declared.Order.the-variants.{Go}
-use Rattle.screen_sequences.specs.Hearing.{does, heard}
+use Rattle.screen_sequences.specs.Sequences.{does, heard}
 use Rattle.screen_sequences.proofs.Codes.{heard-code}
 use Rattle.screen_pen.specs.declared.Pen.{Pen}
 use Rattle.screen_planning.specs.Naming.{Names}

@@ -15,7 +15,7 @@ use Rattle.screen_sequences.specs.declared.Order.{Order}
 use Rattle.screen_sequences.specs.declared.Order.the-variants.{Skip, Left, Right, Up, Down, First, Clear, Home}
 use Rattle.screen_sequences.specs.declared.Order.the-variants.{ShiftOut, ShiftIn, Show, Hide, Pair, Go, Write}
 use Rattle.screen_sequences.specs.declared.Order.the-variants.{Second, Again}
-use Rattle.screen_sequences.specs.Hearing.{heard}
+use Rattle.screen_sequences.specs.Sequences.{heard}
 use Rattle.screen_pen.specs.declared.Last.{Last}
 use Rattle.screen_pen.specs.declared.Last.the-variants.{Never, Character}
 use Rattle.screen_pen.specs.declared.Pen.{Pen}

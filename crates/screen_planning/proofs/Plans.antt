@@ -7,7 +7,7 @@ use Rattle.screen_sequences.specs.declared.Sequence.{Sequence}
 use Rattle.screen_sequences.specs.declared.Sequence.the-variants.{Free}
 use Rattle.screen_sequences.specs.declared.Order.the-variants.{Write}
 use Rattle.screen_sequences.specs.declared.Heard.{Heard}
-use Rattle.screen_sequences.specs.Hearing.{isFree, does, heard}
+use Rattle.screen_sequences.specs.Sequences.{isFree, does, heard}
 use Rattle.screen_sequences.proofs.Codes.{free, heard-text}
 use Rattle.screen_pen.specs.declared.Pen.{Pen}
 use Rattle.screen_pen.specs.Pens.{inRange}

@@ -13,7 +13,7 @@ use Rattle.screen_sequences.specs.declared.Sequence.the-variants.{Single, Addre
 use Rattle.screen_sequences.specs.declared.Order.{Order}
 use Rattle.screen_sequences.specs.declared.Order.the-variants.{Skip}
 use Rattle.screen_sequences.specs.declared.Heard.{Heard}
-use Rattle.screen_sequences.specs.Hearing.{isSeparator, does, opens, begins, control, followed}
+use Rattle.screen_sequences.specs.Sequences.{isSeparator, does, opens, begins, control, followed}
 use Rattle.screen_sequences.proofs.Stays.{none, also, among-in}
 use Rattle.screen_pen.specs.declared.Last.{Last}
 use Rattle.screen_pen.specs.declared.Last.the-variants.{Never, Character}

@@ -15,7 +15,7 @@ use Rattle.screen_sequences.specs.declared.Order.{Order}
 use Rattle.screen_sequences.specs.declared.Order.the-variants.{Skip, Left, Right, Up, Down, First, Clear, Home}
 use Rattle.screen_sequences.specs.declared.Order.the-variants.{ShiftOut, ShiftIn, Show, Hide, Pair, Go, Write}
 use Rattle.screen_sequences.specs.declared.Order.the-variants.{Second, Again}
-use Rattle.screen_sequences.specs.Hearing.{control}
+use Rattle.screen_sequences.specs.Sequences.{control}
 use Rattle.screen_sequences.proofs.Codes.{heard-control}
 use Rattle.screen_pen.specs.declared.Last.{Last}
 use Rattle.screen_pen.specs.declared.Last.the-variants.{Never, Character}

@@ -18,7 +18,7 @@ use Rattle.screen_sequences.specs.declared.Order.{Order}
 use Rattle.screen_sequences.specs.declared.Order.the-variants.{Skip, Left, Right, Up, Down, First, Clear, Home}
 use Rattle.screen_sequences.specs.declared.Order.the-variants.{ShiftOut, ShiftIn, Show, Hide, Pair, Go, Write}
 use Rattle.screen_sequences.specs.declared.Order.the-variants.{Second, Again}
-use Rattle.screen_sequences.specs.Hearing.{inRange as goodSequence, heard}
+use Rattle.screen_sequences.specs.Sequences.{inRange as goodSequence, heard}
 use Rattle.screen_sequences.proofs.Stays.{InOrder, heard-in}
 use Rattle.screen_cells.specs.Within.{Character}
 use Rattle.screen_attributes.specs.declared.Attributes.{Attributes}

@@ -3,7 +3,7 @@ use mathlib.Core.Bool.{cond}
 use Prim.Native.Nat.{ℕ}
 use lib.Dec.{ltb}
 use Rattle.screen_sequences.specs.declared.Order.{Order}
-use Rattle.screen_sequences.specs.Hearing.{heard}
+use Rattle.screen_sequences.specs.Sequences.{heard}
 use Rattle.screen_pen.specs.declared.Pen.{Pen}
 use Rattle.screen_pen.specs.Pens.{inRange}
 use Rattle.screen_pen.specs.Strokes.{afterTimes}

@@ -5,7 +5,7 @@ use lib.Dec.{ltb, eqb}
 use Rattle.screen_sequences.specs.declared.Sequence.{Sequence}
 use Rattle.screen_sequences.specs.declared.Sequence.the-variants.{Free, Escape, Long, Control, Separator, Repeat}
 use Rattle.screen_sequences.specs.declared.Sequence.the-variants.{Single, Address, Row}
-use Rattle.screen_sequences.specs.Hearing.{isSeparator}
+use Rattle.screen_sequences.specs.Sequences.{isSeparator}
 
 -- at most so many cells are written by a code from 2/0: one with nothing unfinished or after SS2, n minus 64 after REP
 abbrev pub reach : Sequence → ℕ → ℕ

@@ -7,10 +7,10 @@
 ghost use mathlib.Core.Path.{_≡_};
 ghost use Rattle.screen_planning.specs.Planning.{plan as planFor};
 
-mod moves;
+mod changing;
 mod orders;
 
-use moves::with_sequence;
+use changing::with_sequence;
 use orders::keep_cells;
 use orders::obey;
 use screen_pen::Pen;

@@ -1,8 +1,8 @@
 // Whether a pen lies in the ranges of the page. The crates `screen_pen`, `screen_attributes` and `screen_sequences` say
-// which do (`specs/Pens`, `specs/Within`, `specs/Hearing`), and `screen_pen`'s proofs/Stays that a pen in range stays
+// which do (`specs/Pens`, `specs/Within`, `specs/Sequences`), and `screen_pen`'s proofs/Stays that a pen in range stays
 // so.
 ghost use mathlib.Core.Path.{_≡_};
-ghost use Rattle.screen_sequences.specs.Hearing.{inRange as goodSequence};
+ghost use Rattle.screen_sequences.specs.Sequences.{inRange as goodSequence};
 ghost use Rattle.screen_attributes.specs.Within.{goodWaiting, good};
 ghost use Rattle.screen_pen.specs.Pens.{goodLast, goodSpot, inRange};
 use screen_attributes::Attributes;

@@ -11,7 +11,7 @@ use Rattle.screen_sequences.specs.declared.Sequence.the-variants.{Free, 
 use Rattle.screen_sequences.specs.declared.Sequence.the-variants.{Single, Address, Row}
 use Rattle.screen_sequences.specs.declared.Order.the-variants.{Skip, Write, Second, Again}
 use Rattle.screen_sequences.specs.declared.Heard.{Heard}
-use Rattle.screen_sequences.specs.Hearing.{isFree, isSeparator, does, control, followed, heard}
+use Rattle.screen_sequences.specs.Sequences.{isFree, isSeparator, does, control, followed, heard}
 
 pub free : (q : Sequence) → isFree q ≡ true → q ≡ Free
 free Free e = refl

@@ -13,7 +13,7 @@ use Rattle.screen_sequences.specs.declared.Sequence.{Sequence}
 use Rattle.screen_sequences.specs.declared.Sequence.the-variants.{Free, Escape, Long, Control, Separator, Repeat}
 use Rattle.screen_sequences.specs.declared.Sequence.the-variants.{Single, Address, Row}
 use Rattle.screen_sequences.specs.declared.Heard.{Heard}
-use Rattle.screen_sequences.specs.Hearing.{inRange, heard}
+use Rattle.screen_sequences.specs.Sequences.{inRange, heard}
 use Rattle.screen_sequences.specs.Opening.{opened, LeftOpen}
 use Rattle.screen_sequences.proofs.Codes.{heard-code}
 use Rattle.screen_sequences.proofs.Stays.{heard-in}

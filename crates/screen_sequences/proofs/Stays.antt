@@ -14,8 +14,8 @@ use Rattle.screen_sequences.specs.declared.Order.the-variants.{Skip, Lef
 use Rattle.screen_sequences.specs.declared.Order.the-variants.{ShiftOut, ShiftIn, Show, Hide, Pair, Go, Write}
 use Rattle.screen_sequences.specs.declared.Order.the-variants.{Second, Again}
 use Rattle.screen_sequences.specs.declared.Heard.{Heard}
-use Rattle.screen_sequences.specs.Hearing.{inRange, isSeparator, among, order, begins, control}
-use Rattle.screen_sequences.specs.Hearing.{followed, heard}
+use Rattle.screen_sequences.specs.Sequences.{inRange, isSeparator, among, order, begins, control}
+use Rattle.screen_sequences.specs.Sequences.{followed, heard}
 
 -- ---- what a value leaves
 

@@ -10,7 +10,7 @@ use Rattle.screen_sequences.specs.declared.Order.{Order}
 use Rattle.screen_sequences.specs.declared.Order.the-variants.{Skip, Left, Right, Up, Down, First, Clear, Home}
 use Rattle.screen_sequences.specs.declared.Order.the-variants.{ShiftOut, ShiftIn, Show, Hide, Pair, Go, Write}
 use Rattle.screen_sequences.specs.declared.Order.the-variants.{Second, Again}
-use Rattle.screen_sequences.specs.Hearing.{heard}
+use Rattle.screen_sequences.specs.Sequences.{heard}
 use Rattle.screen_sequences.specs.Opening.{opened}
 
 -- what the values order, one after the other

@@ -5,7 +5,7 @@ use Prim.Native.Nat.{ℕ}
 use Rattle.values.specs.Large.{Values}
 use Rattle.screen_sequences.specs.declared.Sequence.{Sequence}
 use Rattle.screen_sequences.specs.declared.Sequence.the-variants.{Free}
-use Rattle.screen_sequences.specs.Hearing.{heard}
+use Rattle.screen_sequences.specs.Sequences.{heard}
 
 -- what is unfinished after these values
 abbrev pub opened : Sequence → List ℕ → Sequence

@@ -1,6 +1,6 @@
 // Which unfinished sequence drops a code.
 ghost use mathlib.Core.Path.{_≡_};
-ghost use Rattle.screen_sequences.specs.Hearing.{isSeparator};
+ghost use Rattle.screen_sequences.specs.Sequences.{isSeparator};
 use crate::Sequence;
 
 impl Sequence {

@@ -8,19 +8,19 @@ use Rattle.screen_attributes.specs.declared.Waiting.{Waiting}
 use Rattle.screen_attributes.specs.declared.Waiting.the-variants.{Nothing, Ground}
 use Rattle.screen_attributes.specs.declared.Attributes.{Attributes}
 use Rattle.screen_writing.specs.Writing.{takes, afterWaiting, cellOf, written}
-use Rattle.screen_writing.specs.Having.{Has, Alike}
+use Rattle.screen_writing.specs.Having.{Has, AlikeButGround}
 
 -- with given attributes
 pub cell-has : (a : Attributes) (s d : ℕ) → Has (cellOf a s d) s d a (a .ground)
 cell-has a s d = record { set = refl; code = refl; ink = refl; ground = refl; flash = refl; inverse = refl }
 
 -- a character changes no attribute but the grounds
-waited-alike : (w : Waiting) (a : Attributes) (t : Bool) → Alike a (afterWaiting w a t)
+waited-alike : (w : Waiting) (a : Attributes) (t : Bool) → AlikeButGround a (afterWaiting w a t)
 waited-alike Nothing a t = record { set = refl; ink = refl; flash = refl; inverse = refl }
 waited-alike (Ground g) a true = record { set = refl; ink = refl; flash = refl; inverse = refl }
 waited-alike (Ground g) a false = record { set = refl; ink = refl; flash = refl; inverse = refl }
 
-pub written-alike : (a : Attributes) (s d : ℕ) → Alike a (written a s d .attributes)
+pub written-alike : (a : Attributes) (s d : ℕ) → AlikeButGround a (written a s d .attributes)
 written-alike a s d = waited-alike (a .waiting) a (takes s d)
 
 -- the cell has the ink, flash and inverse in force, and the ground that is in force with it, taken or not

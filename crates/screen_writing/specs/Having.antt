@@ -14,7 +14,7 @@ pub record Has (c : Cell) (s d : ℕ) (a : Attributes) (g : ℕ) : Type 0 where
   pub inverse : c .inverse ≡ a .inverse
 
 -- attributes alike in all but their grounds
-pub record Alike (a b : Attributes) : Type 0 where
+pub record AlikeButGround (a b : Attributes) : Type 0 where
   pub set : b .set ≡ a .set
   pub ink : b .ink ≡ a .ink
   pub flash : b .flash ≡ a .flash

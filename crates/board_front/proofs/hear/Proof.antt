@@ -1,6 +1,6 @@
 -- `board_front::hear` meets its contract. Assumes nothing.
 use Rattle.line_receiver.proofs.Asked.{asked-counted}
-use Rattle.board_front.specs.Hearing.{heardBy}
+use Rattle.board_front.specs.LineBytes.{heardBy}
 use borrow.Author.Needs.{needs}
 use Rattle.board_front.proofs.hear.Statement.{statement}
 use Rattle.board_front.proofs.hear.Tie as tie

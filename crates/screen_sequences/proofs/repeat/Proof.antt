@@ -4,7 +4,7 @@ use mathlib.Core.Bool.{Bool, cond}
 use Prim.Native.Nat.{_-_}
 use borrow.Author.Tests.{lt-ltb, le-ltb}
 use Rattle.screen_sequences.specs.declared.Order.the-variants.{Skip, Again}
-use Rattle.screen_sequences.specs.Hearing.{does, noTimes}
+use Rattle.screen_sequences.specs.Sequences.{does, noTimes}
 use Rattle.screen_sequences.proofs.repeat.Statement.{statement}
 use Rattle.screen_sequences.proofs.repeat.Tie as tie
 

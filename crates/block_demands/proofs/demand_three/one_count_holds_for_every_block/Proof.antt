@@ -1,5 +1,5 @@
 -- The theorem is proved where its words are. Assumes nothing.
-use Rattle.block_reader.proofs.Alike.{same-verdict, same-return}
+use Rattle.block_reader.proofs.AsZeros.{same-verdict, same-return}
 use Rattle.block_demands.proofs.demand_three.one_count_holds_for_every_block.Statement.{statement}
 use Rattle.block_demands.proofs.demand_three.one_count_holds_for_every_block.Tie as tie
 

@@ -10,7 +10,7 @@ use Rattle.board_feeding.specs.Feeding.{got}
 use Rattle.board_front.specs.declared.Front.{Front}
 use Rattle.board_front.specs.declared.Heard.{Heard}
 use Rattle.board_front.specs.declared.Room.{Room}
-use Rattle.board_front.specs.Hearing.{heardBy, calls, behind}
+use Rattle.board_front.specs.LineBytes.{heardBy, calls, behind}
 use Rattle.board_front.specs.Fitting.{needed, needsOf, more, leftOver}
 use Rattle.board_front.proofs.Onwards.{behind-one}
 use Rattle.board_front.proofs.Rooms.{tested, one-more, Spent, spent-on, lacking, short, enough, spent-whole}

@@ -19,7 +19,7 @@ use Rattle.board_feeding.proofs.Suffices.{small-got, suffices}
 use Rattle.screen_page.specs.declared.Screen.{Screen as Page}
 use Rattle.board_front.specs.declared.Front.{Front}
 use Rattle.board_front.specs.declared.Room.{Room}
-use Rattle.board_front.specs.Hearing.{calls, behind, toEach, asks}
+use Rattle.board_front.specs.LineBytes.{calls, behind, toEach, asks}
 use Rattle.board_front.specs.Fitting.{roomIn, needed}
 use Rattle.board_front.proofs.Rooms.{Fits, tested, beginning}
 use Rattle.line_turns.specs.declared.Turn.{Turn}

@@ -10,7 +10,7 @@ use borrow.Author.Needs.{needs}
 use Rattle.screen_sequences.specs.declared.Sequence.{Sequence}
 use Rattle.screen_sequences.specs.declared.Sequence.the-variants.{Free, Escape, Long, Control, Separator, Repeat}
 use Rattle.screen_sequences.specs.declared.Sequence.the-variants.{Single, Address, Row}
-use Rattle.screen_sequences.specs.Hearing.{isFree}
+use Rattle.screen_sequences.specs.Sequences.{isFree}
 use Rattle.screen_sequences.proofs.Sequence.{the-type}
 use Rattle.screen.specs.Turns.{isPlain}
 use Rattle.screen.proofs.turns.is_plain.Statement.{statement}

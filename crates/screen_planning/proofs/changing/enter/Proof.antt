@@ -1,7 +1,7 @@
--- `screen_planning::moves::enter` meets its contract. Assumes nothing.
+-- `screen_planning::changing::enter` meets its contract. Assumes nothing.
 use borrow.Author.Tests.{eq-eqb, ne-eqb}
-use Rattle.screen_planning.proofs.moves.enter.Statement.{statement}
-use Rattle.screen_planning.proofs.moves.enter.Tie as tie
+use Rattle.screen_planning.proofs.changing.enter.Statement.{statement}
+use Rattle.screen_planning.proofs.changing.enter.Tie as tie
 
 returns : tie.Need-returns
 returns c = simp (eq-eqb _ _ (c .if2 .taken), eq-eqb _ _ (c .before .before .if1 .taken))

@@ -1,8 +1,8 @@
--- `screen_planning::moves::go` meets its contract. Assumes nothing.
+-- `screen_planning::changing::go` meets its contract. Assumes nothing.
 use borrow.Author.Needs.{needs}
 use Rattle.screen_planning.specs.Obeying.{gone}
-use Rattle.screen_planning.proofs.moves.go.Statement.{statement}
-use Rattle.screen_planning.proofs.moves.go.Tie as tie
+use Rattle.screen_planning.proofs.changing.go.Statement.{statement}
+use Rattle.screen_planning.proofs.changing.go.Tie as tie
 
 enum-told : tie.Need-enum-told
 enum-told c = search needs

@@ -1,8 +1,8 @@
--- `screen_planning::moves::go_down` meets its contract. Assumes nothing.
+-- `screen_planning::changing::go_down` meets its contract. Assumes nothing.
 use borrow.Author.Tests.{eq-eqb, ne-eqb}
 use borrow.Author.Needs.{needs}
-use Rattle.screen_planning.proofs.moves.go_down.Statement.{statement}
-use Rattle.screen_planning.proofs.moves.go_down.Tie as tie
+use Rattle.screen_planning.proofs.changing.go_down.Statement.{statement}
+use Rattle.screen_planning.proofs.changing.go_down.Tie as tie
 
 with-place-requires : tie.Need-with-place-requires
 with-place-requires c κs = search needs

@@ -1,7 +1,7 @@
--- `screen_planning::moves::start_at` meets its contract. Assumes nothing.
+-- `screen_planning::changing::start_at` meets its contract. Assumes nothing.
 use borrow.Author.Needs.{needs}
-use Rattle.screen_planning.proofs.moves.start_at.Statement.{statement}
-use Rattle.screen_planning.proofs.moves.start_at.Tie as tie
+use Rattle.screen_planning.proofs.changing.start_at.Statement.{statement}
+use Rattle.screen_planning.proofs.changing.start_at.Tie as tie
 
 start-requires : tie.Need-start-requires
 start-requires c κs = search needs
