@@ -9,18 +9,18 @@ use crate::texts::put_number;
 use screen_attributes::Attributes;
 use screen_attributes::Waiting;
 use screen_cells::Cell;
-use screen_cursor::Place;
 use screen_page::Screen;
 use screen_pen::Last;
 use screen_pen::Pen;
+use screen_pen::Spot;
 use screen_sequences::Sequence;
 
 // Set, code, ink, ground, flash and inverse.
 fn spelled(cell: Cell) -> [u8; 7] {
     [
-        digit(cell.set),
-        digit(cell.code / 16),
-        digit(cell.code),
+        digit(cell.character.set),
+        digit(cell.character.code / 16),
+        digit(cell.character.code),
         digit(cell.ink),
         digit(cell.ground),
         digit(cell.flash as u8),
@@ -65,10 +65,10 @@ fn put_rows(cells: [Cell; 1000]) {
 }
 
 fn put_attributes(a: Attributes) {
-    let waiting = a.waiting;
+    let waiting = a.zone.waiting;
     put_number(b", set ", a.set as u64);
     put_number(b", ink ", a.ink as u64);
-    put_number(b", ground ", a.ground as u64);
+    put_number(b", ground ", a.zone.ground as u64);
     match waiting {
         Waiting::Nothing => put(b", waiting -"),
         Waiting::Ground(colour) => put_number(b", waiting ", colour as u64),
@@ -77,20 +77,20 @@ fn put_attributes(a: Attributes) {
     put_number(b", inverse ", a.inverse as u64);
 }
 
-fn put_spot(name: &[u8], place: Place, attributes: Attributes) {
+fn put_spot(name: &[u8], spot: Spot) {
     put(name);
-    put_number(b": row ", place.row as u64);
-    put_number(b", column ", place.column as u64);
-    put_attributes(attributes);
+    put_number(b": row ", spot.place.row as u64);
+    put_number(b", column ", spot.place.column as u64);
+    put_attributes(spot.attributes);
     put(b"\n");
 }
 
 fn put_last(last: Last) {
     match last {
         Last::Never => put(b"last -"),
-        Last::Character { set, code } => {
-            put_number(b"last ", set as u64);
-            put_bytes(b"", &[code]);
+        Last::Was(character) => {
+            put_number(b"last ", character.set as u64);
+            put_bytes(b"", &[character.code]);
         }
     }
 }
@@ -111,11 +111,10 @@ fn put_sequence(sequence: Sequence) {
 }
 
 fn put_pen(pen: Pen) {
-    let kept = pen.kept;
     let last = pen.last;
     let sequence = pen.sequence;
-    put_spot(b"pen", pen.place, pen.attributes);
-    put_spot(b"kept", kept.place, kept.attributes);
+    put_spot(b"pen", pen.here);
+    put_spot(b"kept", pen.kept);
     put_last(last);
     put_sequence(sequence);
     put_number(b", shown ", pen.shown as u64);

@@ -27,8 +27,8 @@ fresh-free socket = refl
 
 pub fresh-screen :
     (freshBoard .screen .cells
-    ≡ replicate 1000 (record { set = 1; code = 32; ink = 7; ground = 0; flash = false; inverse = false }))
-    × (freshBoard .screen .pen .place .row ≡ 1) × (freshBoard .screen .pen .place .column ≡ 1)
+    ≡ replicate 1000 (record { character = record { set = 1; code = 32 }; ink = 7; ground = 0; flash = false; inverse = false }))
+    × (freshBoard .screen .pen .here .place .row ≡ 1) × (freshBoard .screen .pen .here .place .column ≡ 1)
     × (freshBoard .screen .pen .shown ≡ false)
 unfolding freshScreen
 fresh-screen = (refl, refl, refl, refl)

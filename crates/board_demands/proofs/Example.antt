@@ -18,7 +18,7 @@ use Rattle.links_hearing.specs.Phrases.{alone, AllProper, Phrased}
 use Rattle.line_receiver.specs.States.{newReceiver}
 use Rattle.line_receiver.specs.Runs.{Event as Heard, byte, on, sent, allPassed, allAsked}
 use Rattle.screen_cells.specs.declared.Cell.{Cell}
-use Rattle.screen_cells.specs.Within.{goodCharacter}
+use Rattle.screen_cells.specs.Characters.{goodCharacter}
 use Rattle.screen_sheet.specs.Clearing.{cleared}
 use Rattle.screen_sheet.specs.Within.{allGood}
 use Rattle.screen_pen.specs.Pens.{goodSpot, inRange as penInRange}

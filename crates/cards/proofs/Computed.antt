@@ -8,7 +8,7 @@ use Rattle.block_validity.specs.Block.{codeBits, remainder, valid}
 use Rattle.block_validity.specs.Changed.{flip}
 use Rattle.block_maker.specs.Making.{useful, sealed, blockOf}
 use Rattle.block_reader.specs.Judging.{tryFrom, verdict, left, handed}
-use Rattle.screen_cells.specs.Within.{goodCharacter}
+use Rattle.screen_cells.specs.Characters.{goodCharacter}
 use Rattle.screen_sheet.specs.Clearing.{cleared}
 use Rattle.screen_sheet.specs.Within.{allGood}
 use Rattle.screen_pen.specs.Pens.{goodSpot, inRange as penInRange}

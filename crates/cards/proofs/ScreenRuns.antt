@@ -2,7 +2,7 @@
 use mathlib.Core.Path.{refl}
 use mathlib.Core.List.{_++_}
 use Rattle.values.specs.Large.{firstLarge}
-use Rattle.screen_cells.specs.Within.{goodCharacter}
+use Rattle.screen_cells.specs.Characters.{goodCharacter}
 use Rattle.screen_sheet.specs.Clearing.{cleared}
 use Rattle.screen_sheet.specs.Within.{allGood}
 use Rattle.screen_pen.specs.Pens.{goodSpot, inRange as penInRange}

@@ -5,13 +5,13 @@ use mathlib.Core.Bool.{true, false}
 use mathlib.Core.List.{List, [], _∷_}
 use Prim.Native.Nat.{ℕ, zero, suc, _+_, _*_}
 use lib.ListN.{replicate}
-use Rattle.screen_cursor.specs.declared.Place.{Place}
 use Rattle.screen_sequences.specs.declared.Sequence.{Sequence}
 use Rattle.screen_sequences.specs.declared.Sequence.the-variants.{Free}
 use Rattle.screen_cells.specs.declared.Cell.{Cell}
 use Rattle.screen_attributes.specs.declared.Waiting.the-variants.{Nothing, Ground}
 use Rattle.screen_attributes.specs.declared.Attributes.{Attributes}
-use Rattle.screen_pen.specs.declared.Last.the-variants.{Never, Character}
+use Rattle.screen_pen.specs.declared.Spot.{Spot}
+use Rattle.screen_pen.specs.declared.Last.the-variants.{Never, Was}
 use Rattle.screen_pen.specs.declared.Pen.{Pen}
 
 -- ---- the codes with names (001, part 2, chapter 2)
@@ -87,16 +87,17 @@ pairs (c ∷ cs) = esc ∷ c ∷ 98 ∷ pairs cs
 
 -- set, code, ink and ground; no flash, not inverse
 abbrev pub cell : ℕ → ℕ → ℕ → ℕ → Cell
-cell s d i g = record { set = s; code = d; ink = i; ground = g; flash = false; inverse = false }
+cell s d i g =
+    record { character = record { set = s; code = d }; ink = i; ground = g; flash = false; inverse = false }
 
 -- the same with flash, and inverse
 abbrev pub flashing : Cell → Cell
 flashing c =
-    record { set = c .set; code = c .code; ink = c .ink; ground = c .ground; flash = true; inverse = c .inverse }
+    record { character = c .character; ink = c .ink; ground = c .ground; flash = true; inverse = c .inverse }
 
 abbrev pub inverted : Cell → Cell
 inverted c =
-    record { set = c .set; code = c .code; ink = c .ink; ground = c .ground; flash = c .flash; inverse = true }
+    record { character = c .character; ink = c .ink; ground = c .ground; flash = c .flash; inverse = true }
 
 -- a code of G0 with start attributes
 abbrev pub plain : ℕ → Cell
@@ -113,7 +114,8 @@ rows n = blanks (n * 40)
 
 -- set, ink and ground; none waiting, no flash, not inverse
 abbrev pub those : ℕ → ℕ → ℕ → Attributes
-those s i g = record { set = s; ink = i; ground = g; waiting = Nothing; flash = false; inverse = false }
+those s i g =
+    record { set = s; ink = i; zone = record { ground = g; waiting = Nothing }; flash = false; inverse = false }
 
 -- "Current attributes at the start: set G0, ink 7, ground 0, none waiting, no flash, not inverse"
 abbrev pub start : Attributes
@@ -125,96 +127,48 @@ awaiting g a =
     record {
       set = a .set;
       ink = a .ink;
-      ground = a .ground;
-      waiting = Ground g;
+      zone = record { ground = a .zone .ground; waiting = Ground g };
       flash = a .flash;
       inverse = a .inverse;
     }
 
 abbrev pub flash : Attributes → Attributes
-flash a =
-    record {
-      set = a .set;
-      ink = a .ink;
-      ground = a .ground;
-      waiting = a .waiting;
-      flash = true;
-      inverse = a .inverse;
-    }
+flash a = record { set = a .set; ink = a .ink; zone = a .zone; flash = true; inverse = a .inverse }
 
 abbrev pub inverse : Attributes → Attributes
-inverse a =
-    record {
-      set = a .set;
-      ink = a .ink;
-      ground = a .ground;
-      waiting = a .waiting;
-      flash = a .flash;
-      inverse = true;
-    }
+inverse a = record { set = a .set; ink = a .ink; zone = a .zone; flash = a .flash; inverse = true }
 
 -- ---- pens
 
-abbrev pub place : ℕ → ℕ → Place
-place r c = record { row = r; column = c }
+-- this row and column, with these attributes
+abbrev pub spot : ℕ → ℕ → Attributes → Spot
+spot r c a = record { place = record { row = r; column = c }; attributes = a }
 
--- at this row and column, with these attributes: as at the start nothing was held before row 0 was entered, no
--- character was written, nothing is unfinished, and the cursor is hidden
+-- there: as at the start nothing was held before row 0 was entered, no character was written, nothing is unfinished, and
+-- the cursor is hidden
 abbrev pub pen : ℕ → ℕ → Attributes → Pen
-pen r c a =
-    record {
-      place = place r c;
-      attributes = a;
-      kept = record { place = place 1 1; attributes = start };
-      last = Never;
-      sequence = Free;
-      shown = false;
-    }
+pen r c a = record { here = spot r c a; kept = spot 1 1 start; last = Never; sequence = Free; shown = false }
 
 -- the same with this place and these attributes held before row 0 was entered
 abbrev pub keeping : ℕ → ℕ → Attributes → Pen → Pen
 keeping r c a p =
-    record {
-      place = p .place;
-      attributes = p .attributes;
-      kept = record { place = place r c; attributes = a };
-      last = p .last;
-      sequence = p .sequence;
-      shown = p .shown;
-    }
+    record { here = p .here; kept = spot r c a; last = p .last; sequence = p .sequence; shown = p .shown }
 
 -- with this set and code as the last character
 abbrev pub lately : ℕ → ℕ → Pen → Pen
 lately s d p =
     record {
-      place = p .place;
-      attributes = p .attributes;
+      here = p .here;
       kept = p .kept;
-      last = Character s d;
+      last = Was (record { set = s; code = d });
       sequence = p .sequence;
       shown = p .shown;
     }
 
 -- with this sequence unfinished
 abbrev pub unfinished : Sequence → Pen → Pen
-unfinished q p =
-    record {
-      place = p .place;
-      attributes = p .attributes;
-      kept = p .kept;
-      last = p .last;
-      sequence = q;
-      shown = p .shown;
-    }
+unfinished q p = record { here = p .here; kept = p .kept; last = p .last; sequence = q; shown = p .shown }
 
 -- with the cursor shown
 abbrev pub visible : Pen → Pen
-visible p =
-    record {
-      place = p .place;
-      attributes = p .attributes;
-      kept = p .kept;
-      last = p .last;
-      sequence = p .sequence;
-      shown = true;
-    }
+visible p = record { here = p .here; kept = p .kept; last = p .last; sequence = p .sequence; shown = true }

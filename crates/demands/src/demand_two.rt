@@ -23,6 +23,7 @@ pub use line_demands::runs::waiting_ends_at_the_first_resumption;
 pub use line_demands::runs::while_off_each_byte_passes_by_itself;
 
 // the screen
+pub use screen_demands::cells::the_same_cell_is_an_equal_cell;
 pub use screen_demands::changes::a_c0_code_ends_a_sequence;
 pub use screen_demands::changes::a_waiting_ground_has_one_fate;
 pub use screen_demands::changes::ff_and_rs_start_at_row_1;

@@ -1,5 +1,6 @@
 // A cell's character as UTF-8: a point of Unicode for each code of each set, and its bytes.
 use crate::texts::add;
+use screen_cells::Character;
 
 // G0: as ASCII, but for six.
 fn letter(code: u8) -> u32 {
@@ -54,11 +55,12 @@ fn sign(code: u8) -> u32 {
 }
 
 // The point of a character; a space and a full block are the same in every set.
-fn point(set: u8, code: u8) -> u32 {
+fn point(character: Character) -> u32 {
+    let code = character.code;
     match code {
         0x20 => 0x20,
         0x7f => 0x2588,
-        _ => match set {
+        _ => match character.set {
             1 => mosaic(code),
             2 => sign(code),
             _ => letter(code),
@@ -72,8 +74,8 @@ fn trailing(bits: u32) -> u8 {
 }
 
 // Adds a character to a text.
-pub(crate) fn add_character(set: u8, code: u8, text: &mut [u8], used: usize) -> usize {
-    let point = point(set, code);
+pub(crate) fn add_character(character: Character, text: &mut [u8], used: usize) -> usize {
+    let point = point(character);
     let last = trailing(point);
     let middle = trailing(point / 64);
     if point < 0x80 {

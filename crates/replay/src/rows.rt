@@ -9,11 +9,6 @@ use screen_page::Cursor;
 use screen_page::Read;
 use screen_page::Screen;
 
-// Whether two cells look the same but for their characters.
-fn are_alike(a: Cell, b: Cell) -> bool {
-    a.ink == b.ink && a.ground == b.ground && a.flash == b.flash && a.inverse == b.inverse
-}
-
 // The start of what sets a terminal to a cell's looks: its colours, of which there are eight.
 fn colours(cell: Cell) -> [u8; 9] {
     let mut text = *b"\x1b[0;30;40";
@@ -37,9 +32,9 @@ fn add_looks(cell: Cell, text: &mut [u8], used: usize) -> usize {
 fn add_cell(cell: Cell, set: bool, text: &mut [u8], used: usize) -> usize {
     if set {
         let at = add_looks(cell, text, used);
-        return add_character(cell.set, cell.code, text, at);
+        return add_character(cell.character, text, at);
     }
-    add_character(cell.set, cell.code, text, used)
+    add_character(cell.character, text, used)
 }
 
 // The cell that was read. A screen that a board hands back is never broken, and the places asked for here are on it;
@@ -49,7 +44,7 @@ fn found(read: Read) -> Cell {
         Read::There(cell) => cell,
         Read::Off | Read::Broken => {
             let mut cell = screen_cells::blank();
-            cell.code = b'?';
+            cell.character.code = b'?';
             cell
         }
     }
@@ -62,7 +57,7 @@ fn add_row(screen: Screen, row: u8, coloured: bool, text: &mut [u8], used: usize
     let mut column = 0;
     while column < 40 {
         let cell = found(screen.cell(row, column + 1));
-        let changed = column == 0 || !are_alike(before, cell);
+        let changed = column == 0 || !screen_cells::look_alike(before, cell);
         at = add_cell(cell, coloured && changed, text, at);
         before = cell;
         column += 1;

@@ -39,8 +39,8 @@ started : (s t : Screen) (x : Place) → t .pen ≡ startAt (withSequence (s .pe
     → Starts s t x × (t .pen .kept ≡ s .pen .kept)
 started s t x e = (
   record {
-    place = ap (λ (p : Pen). p .place) e;
-    attributes = ap (λ (p : Pen). p .attributes) e;
+    place = ap (λ (p : Pen). p .here .place) e;
+    attributes = ap (λ (p : Pen). p .here .attributes) e;
     sequence = ap (λ (p : Pen). p .sequence) e;
     last = ap (λ (p : Pen). p .last) e;
     shown = ap (λ (p : Pen). p .shown) e;
@@ -111,21 +111,21 @@ us-screen s i j r c e n =
 -- what entering row 0 leaves alone
 entered : (p q : Pen) (x : Place) (t u : Bool)
     → q ≡ startAt (cond t (cond u p (keeping p)) p) x
-    → (q .place ≡ x) × (q .sequence ≡ p .sequence) × (q .last ≡ p .last) × (q .shown ≡ p .shown)
+    → (q .here .place ≡ x) × (q .sequence ≡ p .sequence) × (q .last ≡ p .last) × (q .shown ≡ p .shown)
 entered p q x true true e = (
-  ap (λ (y : Pen). y .place) e,
+  ap (λ (y : Pen). y .here .place) e,
   ap (λ (y : Pen). y .sequence) e,
   ap (λ (y : Pen). y .last) e,
   ap (λ (y : Pen). y .shown) e,
 )
 entered p q x true false e = (
-  ap (λ (y : Pen). y .place) e,
+  ap (λ (y : Pen). y .here .place) e,
   ap (λ (y : Pen). y .sequence) e,
   ap (λ (y : Pen). y .last) e,
   ap (λ (y : Pen). y .shown) e,
 )
 entered p q x false u e = (
-  ap (λ (y : Pen). y .place) e,
+  ap (λ (y : Pen). y .here .place) e,
   ap (λ (y : Pen). y .sequence) e,
   ap (λ (y : Pen). y .last) e,
   ap (λ (y : Pen). y .shown) e,
@@ -137,11 +137,11 @@ us-starts s i j r c e n =
     let f = us-screen s i j r c e n in
     let k =
     entered (withSequence (s .pen) Free) (advancedBy s (addressing i j r c) .pen) (at (r - 64) (c - 64))
-    (eqb (r - 64) 0) (eqb (s .pen .place .row) 0) (ap (λ (x : Screen). x .pen) f)
+    (eqb (r - 64) 0) (eqb (s .pen .here .place .row) 0) (ap (λ (x : Screen). x .pen) f)
     in (
       record {
         place = k .0;
-        attributes = ap (λ (x : Screen). x .pen .attributes) f;
+        attributes = ap (λ (x : Screen). x .pen .here .attributes) f;
         sequence = k .1;
         last = k .2;
         shown = k .3;
@@ -154,7 +154,7 @@ pub us-kept : (s : Screen) (i j r c : ℕ) → (s .pen .sequence ≡ Separator �
     → advancedBy s (addressing i j r c) .pen .kept ≡ s .pen .kept
 us-kept s i j r c e n h =
     ap (λ (x : Screen). x .pen .kept) (us-screen s i j r c e n)
-    ∙ ap (λ (t : Bool). cond t (cond (eqb (s .pen .place .row) 0) p (keeping p)) p .kept)
+    ∙ ap (λ (t : Bool). cond t (cond (eqb (s .pen .here .place .row) 0) p (keeping p)) p .kept)
     (ne-eqb (r - 64) 0 (λ f. omega (arith, h, f)))
   where
     p : Pen

@@ -13,8 +13,8 @@ use Rattle.screen_answers.proofs.Answer.{the-type}
 use Rattle.values.specs.Large.{firstLarge}
 use Rattle.screen_page.specs.declared.Screen.{Screen}
 use Rattle.screen_page.specs.Ranges.{broken}
-use Rattle.screen.specs.Screens.{advanced, advancedBy}
-use Rattle.screen.specs.Calls.{leftBy, answered, stepsTo, stepped, runsTo, ran}
+use Rattle.screen.specs.Screens.{advancedBy}
+use Rattle.screen.specs.Calls.{leftBy, answered, runsTo, ran}
 
 -- the answers but the first
 abbrev refusals : List ℕ
@@ -25,13 +25,6 @@ kept : (a : Answer) → OneOf refusals (tagOf the-type a) → (s x : Screen) →
 kept Taken h s x = absurd (miss refusals 0 tt h)
 kept (TooLarge i) h s x = refl
 kept Broken h s x = refl
-
-pub step-refused : (s : Screen) (b : ℕ) (a : Answer) → OneOf refusals (tagOf the-type a) → a ≡ answered s (b ∷ [])
-    → stepsTo s a ≡ stepped s b
-unfolding stepped
-step-refused s b a h e =
-    ap (λ (x : Screen). stepsTo x a) (kept a h s (advanced s b))
-    ∙ ap (λ (d : Answer). stepsTo (leftBy d s (advanced s b)) d) e
 
 pub ran-refused : (s : Screen) (vs : List ℕ) (a : Answer) → OneOf refusals (tagOf the-type a) → a ≡ answered s vs
     → runsTo s a ≡ ran s vs

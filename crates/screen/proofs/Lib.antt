@@ -1,7 +1,6 @@
 pub mod Stays
 pub mod Steps
 pub mod Beside
-pub mod Plain
 pub mod Answers
 pub mod Touched
 pub mod Repeated

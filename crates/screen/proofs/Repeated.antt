@@ -8,8 +8,10 @@ use Rattle.screen_sequences.specs.declared.Order.the-variants.{Skip, Second, Ag
 use Rattle.screen_sequences.specs.Sequences.{isFree, isSeparator, does, control, heard}
 use Rattle.screen_sequences.proofs.Codes.{heard-control, heard-dropped, heard-repeat, heard-low}
 use Rattle.screen_sequences.proofs.Codes.{heard-second, heard-swallowed}
+use Rattle.screen_cells.specs.declared.Character.{Character}
+use Rattle.screen_cells.specs.Characters.{character}
 use Rattle.screen_pen.specs.declared.Last.{Last}
-use Rattle.screen_pen.specs.declared.Last.the-variants.{Never, Character}
+use Rattle.screen_pen.specs.declared.Last.the-variants.{Never, Was}
 use Rattle.screen_planning.specs.declared.Planned.{Planned}
 use Rattle.screen_planning.specs.Changing.{withSequence}
 use Rattle.screen_planning.specs.Obeying.{again, obeyed}
@@ -36,17 +38,17 @@ nul-step s = refl
 
 -- with nothing unfinished a code from 2/0 is one character of the current set
 pub text-step : (s : Screen) (b : ℕ) → s .pen .sequence ≡ Free → 32 ≤ b
-    → advanced s b ≡ written s (s .pen .attributes .set) b
+    → advanced s b ≡ written s (character (s .pen .here .attributes .set) b)
 unfolding applied writtenTimes
 text-step s b e h = step-plan s b _ (plan-text (s .pen) b (ap isFree e) h)
 
 -- ---- REP
 
 -- n from 4/0: the last character, n minus 64 times
-pub again-step : (s : Screen) (a d n : ℕ) → s .pen .sequence ≡ Repeat → s .pen .last ≡ Character a d → 64 ≤ n
-    → advanced s n ≡ writtenTimes (ended s) a d (n - 64)
+pub again-step : (s : Screen) (c : Character) (n : ℕ) → s .pen .sequence ≡ Repeat → s .pen .last ≡ Was c → 64 ≤ n
+    → advanced s n ≡ writtenTimes (ended s) c (n - 64)
 unfolding obeyed applied
-again-step s a d n e l h =
+again-step s c n e l h =
     step-plan s n _
     (plan-heard (s .pen) n (does (Again (n - 64)))
     (ap (λ (q : Sequence). heard q n) e ∙ heard-repeat n h)
@@ -73,7 +75,7 @@ never-step s n e l h =
 
 -- one character of G2, and none for a code of column 4
 pub second-step : (s : Screen) (b : ℕ) → s .pen .sequence ≡ Single → 32 ≤ b → (b / 16 ≡ 4 → ⊥)
-    → advanced s b ≡ written (ended s) 2 b
+    → advanced s b ≡ written (ended s) (character 2 b)
 unfolding obeyed applied writtenTimes
 second-step s b e h f =
     step-plan s b _

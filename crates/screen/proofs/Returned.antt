@@ -5,9 +5,9 @@ use Prim.Native.Nat.{ℕ, zero, suc, _-_, _≤_}
 use lib.Dec.{lit≤}
 use Rattle.screen_cursor.specs.Places.{at}
 use Rattle.screen_sequences.specs.declared.Sequence.the-variants.{Free, Separator}
-use Rattle.screen_attributes.specs.Attributing.{grounds}
+use Rattle.screen_cells.specs.declared.Character.{Character}
 use Rattle.screen_pen.specs.declared.Pen.{Pen}
-use Rattle.screen_pen.specs.declared.Kept.{Kept}
+use Rattle.screen_pen.specs.declared.Spot.{Spot}
 use Rattle.screen_pen.specs.Strokes.{afterTimes}
 use Rattle.screen_planning.specs.declared.Asked.{Asked}
 use Rattle.screen_planning.specs.declared.Asked.the-variants.{Nothing, Blank, Put}
@@ -26,19 +26,19 @@ use Rattle.screen.proofs.Addressed.{us-screen}
 
 -- ---- the pen after one value
 
-times-pen : (s : Screen) (a d n : ℕ) → writtenTimes s a d n .pen ≡ afterTimes (s .pen) a d n
+times-pen : (s : Screen) (c : Character) (n : ℕ) → writtenTimes s c n .pen ≡ afterTimes (s .pen) c n
 unfolding writtenTimes written afterTimes
-times-pen s a d zero = refl
-times-pen s a d (suc n) = ap (λ (p : Pen). again p) (times-pen s a d n)
+times-pen s c zero = refl
+times-pen s c (suc n) = ap (λ (p : Pen). again p) (times-pen s c n)
   where
     again : Pen → Pen
-    again p = afterTimes p a d 1
+    again p = afterTimes p c 1
 
 applied-pen : (s : Screen) (p : Pen) (o : Asked) → applied s p o .pen ≡ finished p o
 unfolding applied
 applied-pen s p Nothing = refl
 applied-pen s p Blank = refl
-applied-pen s p (Put a d n) = times-pen (withPen s p) a d n
+applied-pen s p (Put c n) = times-pen (withPen s p) c n
 
 -- it is that of the pen alone: no cell matters
 pub step-pen : (s : Screen) (b : ℕ) → advanced s b .pen ≡ penAfter (s .pen) b
@@ -47,13 +47,13 @@ step-pen s b = applied-pen s (planned (s .pen) b .pen) (planned (s .pen) b .aske
 
 -- so what becomes of the grounds is what becomes of them in the pen
 pub step-fate : (s : Screen) (b : ℕ)
-    → grounds (advanced s b .pen .attributes) ≡ outcome (s .pen) (fate (s .pen) (ordered (s .pen) b))
-step-fate s b = ap (λ (p : Pen). grounds (p .attributes)) (step-pen s b) ∙ value-fate (s .pen) b
+    → advanced s b .pen .here .attributes .zone ≡ outcome (s .pen) (fate (s .pen) (ordered (s .pen) b))
+step-fate s b = ap (λ (p : Pen). p .here .attributes .zone) (step-pen s b) ∙ value-fate (s .pen) b
 
 -- ---- US into row 0
 
 -- the screen in row 0
-pub entering : (s : Screen) (i j c : ℕ) → (s .pen .sequence ≡ Separator → ⊥) → 1 ≤ s .pen .place .row
+pub entering : (s : Screen) (i j c : ℕ) → (s .pen .sequence ≡ Separator → ⊥) → 1 ≤ s .pen .here .place .row
     → 65 ≤ c → c ≤ 104 → advancedBy s (enteringRow0 i j c) ≡ withPen s (entered (s .pen) c)
 entering s i j c e r h k =
     us-screen s i j 64 c e (record { lowest = lit≤ tt; highest = lit≤ tt; first = h; last = k })
@@ -61,8 +61,8 @@ entering s i j c e r h k =
 
 -- ---- while the cursor stays there
 
-stays-kept : {s : Screen} {bs : List ℕ} → s .pen .place .row ≡ 0 → StaysInRow0 s bs
-    → (advancedBy s bs .pen .kept ≡ s .pen .kept) × (advancedBy s bs .pen .place .row ≡ 0)
+stays-kept : {s : Screen} {bs : List ℕ} → s .pen .here .place .row ≡ 0 → StaysInRow0 s bs
+    → (advancedBy s bs .pen .kept ≡ s .pen .kept) × (advancedBy s bs .pen .here .place .row ≡ 0)
 unfolding advancedBy
 stays-kept e done = (refl, e)
 stays-kept {s} e (next {b = b} f t) =
@@ -74,23 +74,23 @@ stays-kept {s} e (next {b = b} f t) =
 -- a screen as US left it in row 0, after values that stay there
 back : (s e : Screen) (c : ℕ) (bs : List ℕ) → e ≡ withPen s (entered (s .pen) c) → StaysInRow0 e bs
     → (advancedBy e bs .pen .sequence ≡ Separator → ⊥)
-    → (advanced (advancedBy e bs) 10 .pen .place ≡ s .pen .place)
-    × (advanced (advancedBy e bs) 10 .pen .attributes ≡ s .pen .attributes)
+    → (advanced (advancedBy e bs) 10 .pen .here .place ≡ s .pen .here .place)
+    × (advanced (advancedBy e bs) 10 .pen .here .attributes ≡ s .pen .here .attributes)
     × (advanced (advancedBy e bs) 10 .cells ≡ advancedBy e bs .cells)
 unfolding applied
 back s e c bs f t q =
-    let r = stays-kept (ap (λ (x : Screen). x .pen .place .row) f) t in
+    let r = stays-kept (ap (λ (x : Screen). x .pen .here .place .row) f) t in
     let g = step-plan (advancedBy e bs) 10 _ (lf-back (advancedBy e bs .pen) q (r .1)) in
     let k = r .0 ∙ ap (λ (x : Screen). x .pen .kept) f in (
-      ap (λ (x : Screen). x .pen .place) g ∙ ap (λ (x : Kept). x .place) k,
-      ap (λ (x : Screen). x .pen .attributes) g ∙ ap (λ (x : Kept). x .attributes) k,
+      ap (λ (x : Screen). x .pen .here .place) g ∙ ap (λ (x : Spot). x .place) k,
+      ap (λ (x : Screen). x .pen .here .attributes) g ∙ ap (λ (x : Spot). x .attributes) k,
       ap (λ (x : Screen). x .cells) g,
     )
 
-pub returned : (s : Screen) (i j c : ℕ) (bs : List ℕ) → (s .pen .sequence ≡ Separator → ⊥) → 1 ≤ s .pen .place .row
+pub returned : (s : Screen) (i j c : ℕ) (bs : List ℕ) → (s .pen .sequence ≡ Separator → ⊥) → 1 ≤ s .pen .here .place .row
     → 65 ≤ c → c ≤ 104
     → let e = advancedBy s (enteringRow0 i j c) in let f = advancedBy e bs in
     StaysInRow0 e bs → (f .pen .sequence ≡ Separator → ⊥)
-    → (advanced f 10 .pen .place ≡ s .pen .place) × (advanced f 10 .pen .attributes ≡ s .pen .attributes)
+    → (advanced f 10 .pen .here .place ≡ s .pen .here .place) × (advanced f 10 .pen .here .attributes ≡ s .pen .here .attributes)
     × (advanced f 10 .cells ≡ f .cells)
 returned s i j c bs q r h k t u = back s (advancedBy s (enteringRow0 i j c)) c bs (entering s i j c q r h k) t u

@@ -13,14 +13,15 @@ use Rattle.screen_cursor.specs.Places.{On, indexOf}
 use Rattle.screen_cursor.proofs.Tested.{index-low}
 use Rattle.screen_motion.specs.Moves.{rightOf}
 use Rattle.screen_sequences.specs.declared.Sequence.the-variants.{Repeat}
+use Rattle.screen_cells.specs.declared.Character.{Character}
 use Rattle.screen_cells.specs.declared.Cell.{Cell}
-use Rattle.screen_cells.specs.Characters.{blankOf}
+use Rattle.screen_cells.specs.Cells.{blankOf}
 use Rattle.screen_attributes.specs.declared.Attributes.{Attributes}
 use Rattle.screen_writing.specs.Writing.{afterWriting}
-use Rattle.screen_writing.specs.Having.{Has, AlikeButGround}
+use Rattle.screen_writing.specs.Having.{Has, AlikeButZone}
 use Rattle.screen_writing.proofs.Cells.{written-has, written-alike}
-use Rattle.screen_writing.proofs.Takers.{written-twice}
-use Rattle.screen_pen.specs.declared.Last.the-variants.{Character}
+use Rattle.screen_writing.proofs.Twice.{written-twice}
+use Rattle.screen_pen.specs.declared.Last.the-variants.{Was}
 use Rattle.screen_pen.specs.declared.Pen.{Pen}
 use Rattle.screen_pen.specs.Strokes.{stroke}
 use Rattle.screen_page.specs.declared.Screen.{Screen}
@@ -34,29 +35,29 @@ use Rattle.screen.proofs.Touched.{moved, moved-right, moved-on, times-p
 -- ---- one character
 
 -- what is stored at the cursor
-stored : (s : Screen) (a d : ℕ) (x : Place) → On (s .pen .place) → length (s .cells) ≡ 1000
-    → indexOf x ≡ indexOf (s .pen .place) → cellAt (written s a d) x ≡ stroke (s .pen) a d .cell
+stored : (s : Screen) (c : Character) (x : Place) → On (s .pen .here .place) → length (s .cells) ≡ 1000
+    → indexOf x ≡ indexOf (s .pen .here .place) → cellAt (written s c) x ≡ stroke (s .pen) c .cell
 unfolding written
-stored s a d x h l e =
-    ap (λ (i : ℕ). getD (set (s .cells) (indexOf (s .pen .place)) (stroke (s .pen) a d .cell)) i blankOf) e
-    ∙ getD-set-same (s .cells) (indexOf (s .pen .place)) (stroke (s .pen) a d .cell) blankOf
+stored s c x h l e =
+    ap (λ (i : ℕ). getD (set (s .cells) (indexOf (s .pen .here .place)) (stroke (s .pen) c .cell)) i blankOf) e
+    ∙ getD-set-same (s .cells) (indexOf (s .pen .here .place)) (stroke (s .pen) c .cell) blankOf
     (omega (arith, l, index-low h))
 
--- it has its set and code, the ink, flash and inverse in force, and the ground in force with it
-pub character-there : (s : Screen) (a d : ℕ) → InScreen s
-    → Has (cellAt (written s a d) (s .pen .place)) a d (s .pen .attributes) (written s a d .pen .attributes .ground)
+-- it is that character, with the ink, flash and inverse in force, and the ground in force with it
+pub character-there : (s : Screen) (c : Character) → InScreen s
+    → Has (cellAt (written s c) (s .pen .here .place)) c (s .pen .here .attributes) (written s c .pen .here .attributes .zone .ground)
 unfolding written
-character-there s a d h =
-    subst⁻¹ (λ (c : Cell). Has c a d (s .pen .attributes) (written s a d .pen .attributes .ground))
-    (stored s a d (s .pen .place) (h .pen .place) (h .thousand) refl)
-    (written-has (s .pen .attributes) a d)
+character-there s c h =
+    subst⁻¹ (λ (k : Cell). Has k c (s .pen .here .attributes) (written s c .pen .here .attributes .zone .ground))
+    (stored s c (s .pen .here .place) (h .pen .here .place) (h .thousand) refl)
+    (written-has (s .pen .here .attributes) c)
 
 -- and it moves the cursor right, is the last character, and leaves all but the grounds
-pub character-leaves : (s : Screen) (a d : ℕ)
-    → (written s a d .pen .place ≡ rightOf (s .pen .place)) × (written s a d .pen .last ≡ Character a d)
-    × AlikeButGround (s .pen .attributes) (written s a d .pen .attributes)
+pub character-leaves : (s : Screen) (c : Character)
+    → (written s c .pen .here .place ≡ rightOf (s .pen .here .place)) × (written s c .pen .last ≡ Was c)
+    × AlikeButZone (s .pen .here .attributes) (written s c .pen .here .attributes)
 unfolding written
-character-leaves s a d = (refl, refl, written-alike (s .pen .attributes) a d)
+character-leaves s c = (refl, refl, written-alike (s .pen .here .attributes) c)
 
 -- ---- the same one again and again
 
@@ -69,25 +70,25 @@ among-split (suc n) x {y} (later m) =
     ⊎-elim (λ (i : Among y (onwards n (rightOf x))). inl (later i)) (λ e. inr (e ∙ moved-right n x))
     (among-split n (rightOf x) m)
 
-module _ (s : Screen) (a d : ℕ) (h : On (s .pen .place)) (l : length (s .cells) ≡ 1000) where
+module _ (s : Screen) (c : Character) (h : On (s .pen .here .place)) (l : length (s .cells) ≡ 1000) where
   abbrev after : ℕ → Screen
-  after n = writtenTimes s a d n
+  after n = writtenTimes s c n
 
   long : (n : ℕ) → length (after n .cells) ≡ 1000
   unfolding writtenTimes written
   long zero = l
-  long (suc n) = length-set (after n .cells) (indexOf (after n .pen .place)) _ ∙ long n
+  long (suc n) = length-set (after n .cells) (indexOf (after n .pen .here .place)) _ ∙ long n
 
-  on : (n : ℕ) → On (after n .pen .place)
-  on n = subst⁻¹ On (times-place s a d n) (moved-on n h)
+  on : (n : ℕ) → On (after n .pen .here .place)
+  on n = subst⁻¹ On (times-place s c n) (moved-on n h)
 
   -- ink, flash and inverse stay
-  alike : (n : ℕ) → AlikeButGround (s .pen .attributes) (after n .pen .attributes)
+  alike : (n : ℕ) → AlikeButZone (s .pen .here .attributes) (after n .pen .here .attributes)
   unfolding writtenTimes written
   alike zero = record { set = refl; ink = refl; flash = refl; inverse = refl }
   alike (suc n) =
       let k = alike n in
-      let w = written-alike (after n .pen .attributes) a d in
+      let w = written-alike (after n .pen .here .attributes) c in
       record {
         set = w .set ∙ k .set;
         ink = w .ink ∙ k .ink;
@@ -96,60 +97,59 @@ module _ (s : Screen) (a d : ℕ) (h : On (s .pen .place)) (l : length (s .cells
       }
 
   -- and from the first one on the ground does
-  same : (n : ℕ) → after (suc n) .pen .attributes ≡ afterWriting (s .pen .attributes) a d
+  same : (n : ℕ) → after (suc n) .pen .here .attributes ≡ afterWriting (s .pen .here .attributes) c
   unfolding writtenTimes written
   same zero = refl
   same (suc n) =
-      ap (λ (b : Attributes). afterWriting b a d) (same n) ∙ written-twice (s .pen .attributes) a d
+      ap (λ (b : Attributes). afterWriting b c) (same n) ∙ written-twice (s .pen .here .attributes) c
 
   -- the cell of one of them
   abbrev Fits : ℕ → Cell → Type 0
-  Fits n c = Has c a d (s .pen .attributes) (after n .pen .attributes .ground)
+  Fits n k = Has k c (s .pen .here .attributes) (after n .pen .here .attributes .zone .ground)
 
-  newest : (n : ℕ) → Fits (suc n) (stroke (after n .pen) a d .cell)
+  newest : (n : ℕ) → Fits (suc n) (stroke (after n .pen) c .cell)
   unfolding writtenTimes written
   newest n =
-      let w = written-has (after n .pen .attributes) a d in
+      let w = written-has (after n .pen .here .attributes) c in
       let k = alike n in
       record {
-        set = w .set;
-        code = w .code;
+        character = w .character;
         ink = w .ink ∙ k .ink;
         ground = w .ground;
         flash = w .flash ∙ k .flash;
         inverse = w .inverse ∙ k .inverse;
       }
 
-  at-cursor : (n : ℕ) (x : Place) → indexOf x ≡ indexOf (after n .pen .place) → Fits (suc n) (cellAt (after (suc n)) x)
+  at-cursor : (n : ℕ) (x : Place) → indexOf x ≡ indexOf (after n .pen .here .place) → Fits (suc n) (cellAt (after (suc n)) x)
   unfolding writtenTimes
-  at-cursor n x e = subst⁻¹ (Fits (suc n)) (stored (after n) a d x (on n) (long n) e) (newest n)
+  at-cursor n x e = subst⁻¹ (Fits (suc n)) (stored (after n) c x (on n) (long n) e) (newest n)
 
   -- one written before stays, or is written over with the same
-  earlier : (n : ℕ) (x : Place) (t : Bool) → eqb (indexOf x) (indexOf (after (suc n) .pen .place)) ≡ t
+  earlier : (n : ℕ) (x : Place) (t : Bool) → eqb (indexOf x) (indexOf (after (suc n) .pen .here .place)) ≡ t
       → Fits (suc n) (cellAt (after (suc n)) x) → Fits (suc (suc n)) (cellAt (after (suc (suc n))) x)
   unfolding writtenTimes written
   earlier n x true e f = at-cursor (suc n) x (eqb-true _ _ e)
   earlier n x false e f =
       subst⁻¹ (Fits (suc (suc n)))
-      (getD-set-other (after (suc n) .cells) (indexOf (after (suc n) .pen .place)) (indexOf x) _ blankOf
+      (getD-set-other (after (suc n) .cells) (indexOf (after (suc n) .pen .here .place)) (indexOf x) _ blankOf
       (eqb-false _ _ e))
-      (subst (λ (b : Attributes). Has (cellAt (after (suc n)) x) a d (s .pen .attributes) (b .ground))
+      (subst (λ (b : Attributes). Has (cellAt (after (suc n)) x) c (s .pen .here .attributes) (b .zone .ground))
       (same n ∙ sym (same (suc n))) f)
 
-  kept : (n : ℕ) (x : Place) → Among x (onwards n (s .pen .place)) → Fits n (cellAt (after n) x)
+  kept : (n : ℕ) (x : Place) → Among x (onwards n (s .pen .here .place)) → Fits n (cellAt (after n) x)
       → Fits (suc n) (cellAt (after (suc n)) x)
   kept (suc n) x i f = earlier n x _ refl f
 
-  pub times-there : (n : ℕ) (x : Place) → Among x (onwards n (s .pen .place)) → Fits n (cellAt (after n) x)
+  pub times-there : (n : ℕ) (x : Place) → Among x (onwards n (s .pen .here .place)) → Fits n (cellAt (after n) x)
   times-there (suc n) x m =
-      ⊎-elim (λ (i : Among x (onwards n (s .pen .place))). kept n x i (times-there n x i))
-      (λ e. at-cursor n x (ap indexOf (e ∙ sym (times-place s a d n)))) (among-split n (s .pen .place) m)
+      ⊎-elim (λ (i : Among x (onwards n (s .pen .here .place))). kept n x i (times-there n x i))
+      (λ e. at-cursor n x (ap indexOf (e ∙ sym (times-place s c n)))) (among-split n (s .pen .here .place) m)
 
 -- each of the n minus 64 places that REP n writes holds the last character
-pub again-there : (s : Screen) (a d n : ℕ) (x : Place) → InScreen s → s .pen .sequence ≡ Repeat
-    → s .pen .last ≡ Character a d → 64 ≤ n → Among x (onwards (n - 64) (s .pen .place))
-    → Has (cellAt (advanced s n) x) a d (s .pen .attributes) (advanced s n .pen .attributes .ground)
-again-there s a d n x h q e k m =
-    subst⁻¹ (λ (t : Screen). Has (cellAt t x) a d (s .pen .attributes) (t .pen .attributes .ground))
-    (again-step s a d n q e k)
-    (times-there (ended s) a d (h .pen .place) (h .thousand) (n - 64) x m)
+pub again-there : (s : Screen) (c : Character) (n : ℕ) (x : Place) → InScreen s → s .pen .sequence ≡ Repeat
+    → s .pen .last ≡ Was c → 64 ≤ n → Among x (onwards (n - 64) (s .pen .here .place))
+    → Has (cellAt (advanced s n) x) c (s .pen .here .attributes) (advanced s n .pen .here .attributes .zone .ground)
+again-there s c n x h q e k m =
+    subst⁻¹ (λ (t : Screen). Has (cellAt t x) c (s .pen .here .attributes) (t .pen .here .attributes .zone .ground))
+    (again-step s c n q e k)
+    (times-there (ended s) c (h .pen .here .place) (h .thousand) (n - 64) x m)

@@ -3,7 +3,8 @@ use mathlib.Core.Path.{_∙_}
 use Prim.Native.Nat.{ℕ, zero, suc, _≤_}
 use lib.ListN.{length-set, length-append, length-take, length-replicate}
 use Rattle.screen_cursor.specs.Places.{indexOf}
-use Rattle.screen_cells.specs.Within.{Character}
+use Rattle.screen_cells.specs.declared.Character.{Character}
+use Rattle.screen_cells.specs.Characters.{InCharacter}
 use Rattle.screen_sheet.specs.Clearing.{cleared}
 use Rattle.screen_sheet.proofs.Stays.{all-set, cleared-in}
 use Rattle.screen_pen.specs.declared.Pen.{Pen}
@@ -17,19 +18,19 @@ use Rattle.screen_page.specs.declared.Screen.{Screen}
 use Rattle.screen_page.specs.Ranges.{InScreen}
 use Rattle.screen.specs.Screens.{written, writtenTimes, applied, advanced}
 
-pub written-in : {s : Screen} (a d : ℕ) → Character a d → InScreen s → InScreen (written s a d)
+pub written-in : {s : Screen} (c : Character) → InCharacter c → InScreen s → InScreen (written s c)
 unfolding written
-written-in {s} a d k h =
+written-in {s} c k h =
     record {
-      pen = after-in a d k (h .pen);
-      cells = all-set (indexOf (s .pen .place)) (stroke-cell a d k (h .pen)) (h .cells);
-      thousand = length-set (s .cells) (indexOf (s .pen .place)) _ ∙ h .thousand;
+      pen = after-in c k (h .pen);
+      cells = all-set (indexOf (s .pen .here .place)) (stroke-cell c k (h .pen)) (h .cells);
+      thousand = length-set (s .cells) (indexOf (s .pen .here .place)) _ ∙ h .thousand;
     }
 
-times-in : {s : Screen} (a d n : ℕ) → Character a d → InScreen s → InScreen (writtenTimes s a d n)
+times-in : {s : Screen} (c : Character) (n : ℕ) → InCharacter c → InScreen s → InScreen (writtenTimes s c n)
 unfolding writtenTimes
-times-in a d zero k h = h
-times-in a d (suc n) k h = written-in a d k (times-in a d n k h)
+times-in c zero k h = h
+times-in c (suc n) k h = written-in c k (times-in c n k h)
 
 pub applied-in : {s : Screen} {p : Pen} (o : Asked) → InAsked o → InPen p → InScreen s → InScreen (applied s p o)
 unfolding applied cleared
@@ -40,7 +41,7 @@ applied-in {s} Blank k j h =
       cells = cleared-in (h .cells);
       thousand = simp (length-append, length-take, length-replicate, h .thousand);
     }
-applied-in (Put a d n) k j h = times-in a d n k (record { pen = j; cells = h .cells; thousand = h .thousand })
+applied-in (Put c n) k j h = times-in c n k (record { pen = j; cells = h .cells; thousand = h .thousand })
 
 -- every step leaves a screen in range
 pub advanced-in : {s : Screen} (b : ℕ) → b ≤ 127 → InScreen s → InScreen (advanced s b)

@@ -20,8 +20,9 @@ use Rattle.screen_sequences.specs.declared.Sequence.{Sequence}
 use Rattle.screen_sequences.specs.declared.Sequence.the-variants.{Separator}
 use Rattle.screen_sequences.specs.Sequences.{isSeparator, control}
 use Rattle.screen_sequences.proofs.Codes.{heard-control}
+use Rattle.screen_cells.specs.declared.Character.{Character}
 use Rattle.screen_cells.specs.declared.Cell.{Cell}
-use Rattle.screen_cells.specs.Characters.{blankOf}
+use Rattle.screen_cells.specs.Cells.{blankOf}
 use Rattle.screen_sheet.specs.Clearing.{cleared}
 use Rattle.screen_sheet.proofs.Blanked.{row-0-kept, others-blank}
 use Rattle.screen_pen.specs.declared.Pen.{Pen}
@@ -74,45 +75,45 @@ among-more (suc m) (suc n) x h (later a) = later (among-more m n (rightOf x) (le
 among-more (suc m) zero x h a = absurd (not-suc-le-zero h)
 
 -- the cursor after n characters, and a cell that none of them is written to
-pub times-place : (s : Screen) (a d n : ℕ) → writtenTimes s a d n .pen .place ≡ moved n (s .pen .place)
+pub times-place : (s : Screen) (c : Character) (n : ℕ) → writtenTimes s c n .pen .here .place ≡ moved n (s .pen .here .place)
 unfolding writtenTimes written
-times-place s a d zero = refl
-times-place s a d (suc n) = ap rightOf (times-place s a d n)
+times-place s c zero = refl
+times-place s c (suc n) = ap rightOf (times-place s c n)
 
-times-cell : (s : Screen) (a d n : ℕ) (x : Place) → On (s .pen .place) → On x
-    → (Among x (onwards n (s .pen .place)) → ⊥) → cellAt (writtenTimes s a d n) x ≡ cellAt s x
+times-cell : (s : Screen) (c : Character) (n : ℕ) (x : Place) → On (s .pen .here .place) → On x
+    → (Among x (onwards n (s .pen .here .place)) → ⊥) → cellAt (writtenTimes s c n) x ≡ cellAt s x
 unfolding writtenTimes written
-times-cell s a d zero x h k f = refl
-times-cell s a d (suc n) x h k f =
-    getD-set-other (writtenTimes s a d n .cells) _ (indexOf x) _ blankOf
+times-cell s c zero x h k f = refl
+times-cell s c (suc n) x h k f =
+    getD-set-other (writtenTimes s c n .cells) _ (indexOf x) _ blankOf
     (λ e. f
-    (subst (λ (y : Place). Among y (onwards (suc n) (s .pen .place))) (sym (same e)) (last-among n (s .pen .place))))
-    ∙ times-cell s a d n x h k (λ i. f (among-more n (suc n) (s .pen .place) (omega arith) i))
+    (subst (λ (y : Place). Among y (onwards (suc n) (s .pen .here .place))) (sym (same e)) (last-among n (s .pen .here .place))))
+    ∙ times-cell s c n x h k (λ i. f (among-more n (suc n) (s .pen .here .place) (omega arith) i))
   where
-    same : indexOf x ≡ indexOf (writtenTimes s a d n .pen .place) → x ≡ moved n (s .pen .place)
-    same e = one-place k (moved-on n h) (e ∙ ap indexOf (times-place s a d n))
+    same : indexOf x ≡ indexOf (writtenTimes s c n .pen .here .place) → x ≡ moved n (s .pen .here .place)
+    same e = one-place k (moved-on n h) (e ∙ ap indexOf (times-place s c n))
 
 -- ---- any value
 
-untouched : (s : Screen) (p : Pen) (o : Asked) (n : ℕ) (x : Place) → On (s .pen .place) → On x
-    → Asks false n (s .pen .place) (p .place) o → (Among x (onwards n (s .pen .place)) → ⊥)
+untouched : (s : Screen) (p : Pen) (o : Asked) (n : ℕ) (x : Place) → On (s .pen .here .place) → On x
+    → Asks false n (s .pen .here .place) (p .here .place) o → (Among x (onwards n (s .pen .here .place)) → ⊥)
     → cellAt (applied s p o) x ≡ cellAt s x
 unfolding applied
 untouched s p Nothing n x h k a f = refl
 untouched s p Blank n x h k a f = absurd (fails refl (holds a))
-untouched s p (Put c d m) n x h k a f =
-    times-cell (withPen s p) c d m x (subst On (sym (a .1)) h) k
-    (λ i. f (among-more m n (s .pen .place) (a .0) (subst (λ (y : Place). Among x (onwards m y)) (a .1) i)))
+untouched s p (Put c m) n x h k a f =
+    times-cell (withPen s p) c m x (subst On (sym (a .1)) h) k
+    (λ i. f (among-more m n (s .pen .here .place) (a .0) (subst (λ (y : Place). Among x (onwards m y)) (a .1) i)))
 
-pub others-stay : (s : Screen) (b : ℕ) (x : Place) → On (s .pen .place) → On x
-    → clears (s .pen .sequence) b ≡ false → (Among x (onwards (writes (s .pen .sequence) b) (s .pen .place)) → ⊥)
+pub others-stay : (s : Screen) (b : ℕ) (x : Place) → On (s .pen .here .place) → On x
+    → clears (s .pen .sequence) b ≡ false → (Among x (onwards (writes (s .pen .sequence) b) (s .pen .here .place)) → ⊥)
     → cellAt (advanced s b) x ≡ cellAt s x
 unfolding advanced
 others-stay s b x h k e f =
     let q = s .pen .sequence in
     let a = planned (s .pen) b in
     untouched s (a .pen) (a .asked) (writes q b) x h k
-    (subst (λ (t : Bool). Asks t (writes q b) (s .pen .place) (a .pen .place) (a .asked))
+    (subst (λ (t : Bool). Asks t (writes q b) (s .pen .here .place) (a .pen .here .place) (a .asked))
     e (plan-asks (s .pen) b))
     f
 

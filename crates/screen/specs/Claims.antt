@@ -37,8 +37,8 @@ addressing i j r c = 31 ∷ replicate i 0 ++ (r ∷ replicate j 0 ++ (c ∷ []))
 -- t has the cursor at place x, start attributes and nothing unfinished; the last character is that of s, and the cursor
 -- is shown as there
 pub record Starts (s t : Screen) (x : Place) : Type 0 where
-  pub place : t .pen .place ≡ x
-  pub attributes : t .pen .attributes ≡ startOf
+  pub place : t .pen .here .place ≡ x
+  pub attributes : t .pen .here .attributes ≡ startOf
   pub sequence : t .pen .sequence ≡ Free
   pub last : t .pen .last ≡ s .pen .last
   pub shown : t .pen .shown ≡ s .pen .shown
@@ -52,7 +52,7 @@ enteringRow0 i j c = addressing i j 64 c
 -- after each of the values the cursor is in row 0
 pub data StaysInRow0 : Screen → List ℕ → Type 0 where
   done : {s : Screen} → StaysInRow0 s []
-  next : {s : Screen} {b : ℕ} {bs : List ℕ} → advanced s b .pen .place .row ≡ 0 → StaysInRow0 (advanced s b) bs
+  next : {s : Screen} {b : ℕ} {bs : List ℕ} → advanced s b .pen .here .place .row ≡ 0 → StaysInRow0 (advanced s b) bs
       → StaysInRow0 s (b ∷ bs)
 
 -- ---- single calls

@@ -3,6 +3,7 @@ use mathlib.Core.List.{List, [], _∷_}
 use Prim.Native.Nat.{ℕ, zero, suc}
 use lib.ListN.{set}
 use Rattle.screen_cursor.specs.Places.{indexOf}
+use Rattle.screen_cells.specs.declared.Character.{Character}
 use Rattle.screen_sheet.specs.Clearing.{cleared}
 use Rattle.screen_pen.specs.declared.Pen.{Pen}
 use Rattle.screen_pen.specs.Strokes.{stroke}
@@ -16,24 +17,24 @@ use Rattle.screen_page.specs.Pages.{withPen}
 abbrev pub blanked : Screen → Pen → Screen
 blanked s p = record { cells = cleared (s .cells); pen = p }
 
--- a character of set a and code d is written at the cursor
-unfoldable pub written : Screen → ℕ → ℕ → Screen
-written s a d =
+-- a character is written at the cursor
+unfoldable pub written : Screen → Character → Screen
+written s c =
     record {
-      cells = set (s .cells) (indexOf (s .pen .place)) (stroke (s .pen) a d .cell);
-      pen = stroke (s .pen) a d .pen;
+      cells = set (s .cells) (indexOf (s .pen .here .place)) (stroke (s .pen) c .cell);
+      pen = stroke (s .pen) c .pen;
     }
 
 -- and n times, one after the other
-unfoldable pub writtenTimes : Screen → ℕ → ℕ → ℕ → Screen
-writtenTimes s a d zero = s
-writtenTimes s a d (suc n) = written (writtenTimes s a d n) a d
+unfoldable pub writtenTimes : Screen → Character → ℕ → Screen
+writtenTimes s c zero = s
+writtenTimes s c (suc n) = written (writtenTimes s c n) c
 
 -- what the pen asks is done
 unfoldable pub applied : Screen → Pen → Asked → Screen
 applied s p Nothing = withPen s p
 applied s p Blank = blanked s p
-applied s p (Put a d n) = writtenTimes (withPen s p) a d n
+applied s p (Put c n) = writtenTimes (withPen s p) c n
 
 -- one value of 0 to 127
 unfoldable pub advanced : Screen → ℕ → Screen

@@ -7,11 +7,9 @@ ghost use mathlib.Core.Path.{_≡_};
 ghost use Rattle.screen.specs.Calls.{stepped, ran};
 
 mod drawing;
-mod pieces;
-mod turns;
+mod plain;
 
-use drawing::apply;
-use pieces::advance;
+use drawing::advance;
 pub use screen_answers::Answer;
 use screen_answers::answer_to;
 use screen_page::Screen;
@@ -30,16 +28,9 @@ pub struct Ran {
 pub fn step(screen: Screen, value: u8) -> Stepped
     ensures { λ r. ⌜ r ≡ stepped screen value ⌝ }
 {
-    let broken = screen.is_broken();
-    let at = values::first_large(&[value]);
-    let answer = answer_to(broken, at, 1);
-    let Answer::Taken = answer else {
-        return Stepped { screen, answer };
-    };
-    let planned = screen_planning::plan(screen.pen, value);
-    let pen = planned.pen;
-    let asked = planned.asked;
-    let screen = apply(screen, pen, asked);
+    let ran = run(screen, &[value]);
+    let answer = ran.answer;
+    let screen = ran.screen;
     Stepped { screen, answer }
 }
 

@@ -1,3 +1,4 @@
+pub mod Literal
 pub mod Written
 pub mod Stays
 pub mod Mosaics

@@ -4,6 +4,7 @@ use Prim.Native.Nat.{_≤_}
 use lib.Dec.{leb}
 use Rattle.screen_attributes.specs.declared.Waiting.{Waiting}
 use Rattle.screen_attributes.specs.declared.Waiting.the-variants.{Nothing, Ground}
+use Rattle.screen_attributes.specs.declared.Zone.{Zone}
 use Rattle.screen_attributes.specs.declared.Attributes.{Attributes}
 
 -- ---- the test
@@ -12,8 +13,11 @@ abbrev pub goodWaiting : Waiting → Bool
 goodWaiting Nothing = true
 goodWaiting (Ground g) = leb g 7
 
+abbrev pub goodZone : Zone → Bool
+goodZone z = leb (z .ground) 7 && goodWaiting (z .waiting)
+
 abbrev pub good : Attributes → Bool
-good a = leb (a .set) 1 && (leb (a .ink) 7 && (leb (a .ground) 7 && goodWaiting (a .waiting)))
+good a = leb (a .set) 1 && (leb (a .ink) 7 && goodZone (a .zone))
 
 -- ---- the ranges
 
@@ -21,8 +25,11 @@ abbrev pub InWaiting : Waiting → Type 0
 InWaiting Nothing = Unit {0}
 InWaiting (Ground g) = g ≤ 7
 
+pub record InZone (z : Zone) : Type 0 where
+  pub ground : z .ground ≤ 7
+  pub waiting : InWaiting (z .waiting)
+
 pub record InForce (a : Attributes) : Type 0 where
   pub set : a .set ≤ 1
   pub ink : a .ink ≤ 7
-  pub ground : a .ground ≤ 7
-  pub waiting : InWaiting (a .waiting)
+  pub zone : InZone (a .zone)

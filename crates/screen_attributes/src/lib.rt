@@ -3,7 +3,7 @@
 //
 // specs/Attributing says what changes them, specs/Within what is in range; proofs/Written writes the start, SO and SI
 // out, proofs/Stays shows that attributes in range stay so, and proofs/Mosaics that nothing is inverse while G1 is
-// current.
+// current. proofs/Literal has attributes in so many words, for all that is worked by hand.
 ghost use mathlib.Core.Path.{_≡_};
 ghost use Rattle.screen_attributes.specs.Attributing.{startOf, shiftedOut, shiftedIn};
 
@@ -13,12 +13,17 @@ pub enum Waiting {
     Ground(u8),
 }
 
+// What is serial: it is in force from the character that takes it on. Colours are 0 to 7.
+pub struct Zone {
+    pub ground: u8,
+    pub waiting: Waiting,
+}
+
 // Those in force. Sets 0 and 1 are G0 and G1; colours are 0 to 7.
 pub struct Attributes {
     pub set: u8,
     pub ink: u8,
-    pub ground: u8,
-    pub waiting: Waiting,
+    pub zone: Zone,
     pub flash: bool,
     pub inverse: bool,
 }
@@ -30,8 +35,10 @@ pub fn start() -> Attributes
     Attributes {
         set: 0,
         ink: 7,
-        ground: 0,
-        waiting: Waiting::Nothing,
+        zone: Zone {
+            ground: 0,
+            waiting: Waiting::Nothing,
+        },
         flash: false,
         inverse: false,
     }

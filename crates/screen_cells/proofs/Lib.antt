@@ -1,2 +1,4 @@
 pub mod Written
 pub mod Tested
+pub mod Equal
+pub mod Takers

@@ -1,2 +1,2 @@
 pub mod Characters
-pub mod Within
+pub mod Cells

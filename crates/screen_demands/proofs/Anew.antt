@@ -9,6 +9,6 @@ pub fresh-never : freshScreen .pen .last ≡ Never
 unfolding freshScreen
 fresh-never = refl
 
-pub fresh-upright : Upright (freshScreen .pen .attributes) × Upright (freshScreen .pen .kept .attributes)
+pub fresh-upright : Upright (freshScreen .pen .here .attributes) × Upright (freshScreen .pen .kept .attributes)
 unfolding freshScreen
 fresh-upright = pen-upright

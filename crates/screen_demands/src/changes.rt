@@ -10,11 +10,12 @@ ghost use Rattle.screen_cursor.specs.declared.Place.{Place};
 ghost use Rattle.screen_cursor.specs.Places.{at, On};
 ghost use Rattle.screen_motion.specs.Moves.{rightOf};
 ghost use Rattle.screen_sequences.specs.declared.Sequence.the-variants.{Free, Separator, Repeat, Single};
-ghost use Rattle.screen_cells.specs.Characters.{blankOf};
-ghost use Rattle.screen_attributes.specs.Attributing.{grounds, Upright};
-ghost use Rattle.screen_writing.specs.Writing.{takes};
-ghost use Rattle.screen_writing.specs.Having.{Has, AlikeButGround};
-ghost use Rattle.screen_pen.specs.declared.Last.the-variants.{Never, Character};
+ghost use Rattle.screen_cells.specs.declared.Character.{Character};
+ghost use Rattle.screen_cells.specs.Characters.{character, takes};
+ghost use Rattle.screen_cells.specs.Cells.{blankOf};
+ghost use Rattle.screen_attributes.specs.Attributing.{Upright};
+ghost use Rattle.screen_writing.specs.Having.{Has, AlikeButZone};
+ghost use Rattle.screen_pen.specs.declared.Last.the-variants.{Never, Was};
 ghost use Rattle.screen_planning.specs.Planning.{ordered};
 ghost use Rattle.screen_planning.specs.Grounds.{fate, outcome};
 ghost use Rattle.screen_planning.specs.Lasts.{lastAfter};
@@ -35,7 +36,7 @@ pub fn only_characters_and_ff_change_a_cell()
     ensures { λ _. ⌜ ((s : Screen) → InScreen s → (b : ℕ) → b ≤ 127 → stepped s b ≡ stepsTo (advanced s b) Taken) ⌝ }
     ensures others { λ _. ⌜ ((s : Screen) → InScreen s → (b : ℕ) (x : Place) → On x
         → clears (s .pen .sequence) b ≡ false
-        → (Among x (onwards (writes (s .pen .sequence) b) (s .pen .place)) → ⊥)
+        → (Among x (onwards (writes (s .pen .sequence) b) (s .pen .here .place)) → ⊥)
         → cellAt (advanced s b) x ≡ cellAt s x) ⌝ }
     ensures blanks { λ _. ⌜ ((s : Screen) → InScreen s → (b : ℕ) (x : Place) → On x
         → clears (s .pen .sequence) b ≡ true
@@ -43,27 +44,29 @@ pub fn only_characters_and_ff_change_a_cell()
 {}
 
 // With nothing unfinished, a code from 2/0 is one character of the current set, at the cursor's place; after SS2 it is
-// one of G2, and a code of column 4 none. The cell of a character has its set and code, the ink, flash and inverse in
-// force, and the ground in force with it; the cursor goes right, and of the attributes only the grounds can change. REP
-// n, n from 4/0, is n minus 64 such characters, one after the other: the last one written, its own set and code, with
-// the attributes of the moment, so that each of the first n minus 64 places from the cursor holds it. With no last
+// one of G2, and a code of column 4 none. The cell of a character has it, the ink, flash and inverse in force, and the
+// ground in force with it; the cursor goes right, and of the attributes only what is serial can change. REP n, n from
+// 4/0, is n minus 64 such characters, one after the other: the last one written, its own set and code, with the
+// attributes of the moment, so that each of the first n minus 64 places from the cursor holds it. With no last
 // character, or n from 2/0 to 3/F, the sequence ends and nothing else happens.
 pub fn rep_is_single_characters()
     ensures one { λ _. ⌜ ((s : Screen) (b : ℕ) → s .pen .sequence ≡ Free → 32 ≤ b
-        → advanced s b ≡ written s (s .pen .attributes .set) b) ⌝ }
+        → advanced s b ≡ written s (character (s .pen .here .attributes .set) b)) ⌝ }
     ensures second { λ _. ⌜ ((s : Screen) (b : ℕ) → s .pen .sequence ≡ Single → 32 ≤ b
-        → ((b / 16 ≡ 4 → ⊥) → advanced s b ≡ written (ended s) 2 b) × (b / 16 ≡ 4 → advanced s b ≡ ended s)) ⌝ }
-    ensures there { λ _. ⌜ ((s : Screen) (a d : ℕ) → InScreen s
-        → Has (cellAt (written s a d) (s .pen .place)) a d (s .pen .attributes)
-        (written s a d .pen .attributes .ground)) ⌝ }
-    ensures leaves { λ _. ⌜ ((s : Screen) (a d : ℕ) → (written s a d .pen .place ≡ rightOf (s .pen .place))
-        × (written s a d .pen .last ≡ Character a d)
-        × AlikeButGround (s .pen .attributes) (written s a d .pen .attributes)) ⌝ }
-    ensures again { λ _. ⌜ ((s : Screen) (a d n : ℕ) → s .pen .sequence ≡ Repeat → s .pen .last ≡ Character a d → 64 ≤ n
-        → advanced s n ≡ writtenTimes (ended s) a d (n - 64)) ⌝ }
-    ensures each { λ _. ⌜ ((s : Screen) (a d n : ℕ) (x : Place) → InScreen s → s .pen .sequence ≡ Repeat
-        → s .pen .last ≡ Character a d → 64 ≤ n → Among x (onwards (n - 64) (s .pen .place))
-        → Has (cellAt (advanced s n) x) a d (s .pen .attributes) (advanced s n .pen .attributes .ground)) ⌝ }
+        → ((b / 16 ≡ 4 → ⊥) → advanced s b ≡ written (ended s) (character 2 b))
+        × (b / 16 ≡ 4 → advanced s b ≡ ended s)) ⌝ }
+    ensures there { λ _. ⌜ ((s : Screen) (c : Character) → InScreen s
+        → Has (cellAt (written s c) (s .pen .here .place)) c (s .pen .here .attributes)
+        (written s c .pen .here .attributes .zone .ground)) ⌝ }
+    ensures leaves { λ _. ⌜ ((s : Screen) (c : Character) → (written s c .pen .here .place ≡ rightOf (s .pen .here .place))
+        × (written s c .pen .last ≡ Was c)
+        × AlikeButZone (s .pen .here .attributes) (written s c .pen .here .attributes)) ⌝ }
+    ensures again { λ _. ⌜ ((s : Screen) (c : Character) (n : ℕ) → s .pen .sequence ≡ Repeat → s .pen .last ≡ Was c
+        → 64 ≤ n → advanced s n ≡ writtenTimes (ended s) c (n - 64)) ⌝ }
+    ensures each { λ _. ⌜ ((s : Screen) (c : Character) (n : ℕ) (x : Place) → InScreen s → s .pen .sequence ≡ Repeat
+        → s .pen .last ≡ Was c → 64 ≤ n → Among x (onwards (n - 64) (s .pen .here .place))
+        → Has (cellAt (advanced s n) x) c (s .pen .here .attributes)
+        (advanced s n .pen .here .attributes .zone .ground)) ⌝ }
     ensures never { λ _. ⌜ ((s : Screen) (n : ℕ) → s .pen .sequence ≡ Repeat → s .pen .last ≡ Never → 64 ≤ n
         → advanced s n ≡ ended s) ⌝ }
     ensures low { λ _. ⌜ ((s : Screen) (n : ℕ) → s .pen .sequence ≡ Repeat → 32 ≤ n → n < 64
@@ -119,20 +122,20 @@ pub fn a_c0_code_ends_a_sequence()
 // takes a ground, and nothing else does.
 pub fn a_waiting_ground_has_one_fate()
     ensures { λ _. ⌜ ((s : Screen) (b : ℕ)
-        → grounds (advanced s b .pen .attributes) ≡ outcome (s .pen) (fate (s .pen) (ordered (s .pen) b))) ⌝ }
-    ensures takers { λ _. ⌜ ((c d : ℕ) → takes c d ≡ true → (c ≡ 1) ⊎ ((c ≡ 0) × (d ≡ 32))) ⌝ }
-    ensures taken { λ _. ⌜ ((d : ℕ) → takes 1 d ≡ true) × (takes 0 32 ≡ true) ⌝ }
+        → advanced s b .pen .here .attributes .zone ≡ outcome (s .pen) (fate (s .pen) (ordered (s .pen) b))) ⌝ }
+    ensures takers { λ _. ⌜ ((c : Character) → takes c ≡ true → (c .set ≡ 1) ⊎ ((c .set ≡ 0) × (c .code ≡ 32))) ⌝ }
+    ensures taken { λ _. ⌜ ((d : ℕ) → takes (character 1 d) ≡ true) × (takes (character 0 32) ≡ true) ⌝ }
 {}
 
 // While G1 is current, inverse is off in the attributes in force, and so in those kept: it is so on a fresh screen, and
 // every call leaves it so, whatever the values. A cell of G1 can be inverse: REP writes a mosaic with the attributes of
 // the moment.
 pub fn the_attributes_of_g1_are_never_inverse()
-    ensures anew { λ _. ⌜ Upright (freshScreen .pen .attributes) × Upright (freshScreen .pen .kept .attributes) ⌝ }
+    ensures anew { λ _. ⌜ Upright (freshScreen .pen .here .attributes) × Upright (freshScreen .pen .kept .attributes) ⌝ }
     ensures steps { λ _. ⌜ ((s : Screen) (b : ℕ)
-        → Upright (s .pen .attributes) × Upright (s .pen .kept .attributes)
-        → Upright (stepped s b .screen .pen .attributes) × Upright (stepped s b .screen .pen .kept .attributes)) ⌝ }
+        → Upright (s .pen .here .attributes) × Upright (s .pen .kept .attributes)
+        → Upright (stepped s b .screen .pen .here .attributes) × Upright (stepped s b .screen .pen .kept .attributes)) ⌝ }
     ensures runs { λ _. ⌜ ((s : Screen) (vs : List ℕ)
-        → Upright (s .pen .attributes) × Upright (s .pen .kept .attributes)
-        → Upright (ran s vs .screen .pen .attributes) × Upright (ran s vs .screen .pen .kept .attributes)) ⌝ }
+        → Upright (s .pen .here .attributes) × Upright (s .pen .kept .attributes)
+        → Upright (ran s vs .screen .pen .here .attributes) × Upright (ran s vs .screen .pen .kept .attributes)) ⌝ }
 {}

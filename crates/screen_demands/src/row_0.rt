@@ -24,10 +24,10 @@ pub fn no_move_crosses_into_row_0()
 // exist: a letter and CR on a fresh screen.
 pub fn lf_returns_from_row_0()
     ensures { λ _. ⌜ ((s : Screen) (i j c : ℕ) (bs : List ℕ) → (s .pen .sequence ≡ Separator → ⊥)
-        → 1 ≤ s .pen .place .row → 65 ≤ c → c ≤ 104
+        → 1 ≤ s .pen .here .place .row → 65 ≤ c → c ≤ 104
         → let e = advancedBy s (enteringRow0 i j c) in let f = advancedBy e bs in
         StaysInRow0 e bs → (f .pen .sequence ≡ Separator → ⊥)
-        → (advanced f 10 .pen .place ≡ s .pen .place) × (advanced f 10 .pen .attributes ≡ s .pen .attributes)
+        → (advanced f 10 .pen .here .place ≡ s .pen .here .place) × (advanced f 10 .pen .here .attributes ≡ s .pen .here .attributes)
         × (advanced f 10 .cells ≡ f .cells)) ⌝ }
     ensures met { λ _. ⌜ StaysInRow0 (advancedBy freshScreen (enteringRow0 1 0 65)) (65 ∷ 13 ∷ []) ⌝ }
 {}

@@ -11,7 +11,7 @@ ghost use Rattle.screen_cursor.specs.Places.{at, On};
 ghost use Rattle.screen_sequences.specs.declared.Sequence.{Sequence};
 ghost use Rattle.screen_sequences.specs.Sequences.{inRange};
 ghost use Rattle.screen_sequences.specs.Opening.{LeftOpen};
-ghost use Rattle.screen_cells.specs.Characters.{blankOf};
+ghost use Rattle.screen_cells.specs.Cells.{blankOf};
 ghost use Rattle.screen_page.specs.declared.Screen.{Screen};
 ghost use Rattle.screen_page.specs.declared.Read.the-variants.{Off, There};
 ghost use Rattle.screen_page.specs.declared.Cursor.the-variants.{Hidden, Shown};
@@ -46,7 +46,7 @@ pub fn reading_gives_the_cell_at_its_place()
         → read s r c ≡ There (cellAt s (at r c))) ⌝ }
     ensures off { λ _. ⌜ ((s : Screen) (r c : ℕ) → broken s ≡ false → (On (at r c) → ⊥) → read s r c ≡ Off) ⌝ }
     ensures cursor { λ _. ⌜ ((s : Screen) → broken s ≡ false
-        → pointed s ≡ cond (s .pen .shown) (Shown (s .pen .place)) (Hidden (s .pen .place))) ⌝ }
+        → pointed s ≡ cond (s .pen .shown) (Shown (s .pen .here .place)) (Hidden (s .pen .here .place))) ⌝ }
     ensures anew { λ _. ⌜ ((x : Place) → On x → cellAt freshScreen x ≡ blankOf) ⌝ }
 {}
 

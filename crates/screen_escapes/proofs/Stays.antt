@@ -6,26 +6,29 @@ use lib.Dec.{ltb, eqb}
 use borrow.Author.Tests.{ltb-true}
 use Rattle.laws.proofs.Computed.{chosen}
 use Rattle.screen_attributes.specs.declared.Attributes.{Attributes}
-use Rattle.screen_attributes.specs.Attributing.{attributes}
 use Rattle.screen_attributes.specs.Within.{InForce}
 use Rattle.screen_escapes.specs.Pairing.{columnFour, columnFive, paired}
 
 -- no range speaks of flash or inverse
 plain : {a : Attributes} (f v : Bool) → InForce a
-    → InForce (attributes (a .set) (a .ink) (a .ground) (a .waiting) f v)
-plain f v h = record { set = h .set; ink = h .ink; ground = h .ground; waiting = h .waiting }
+    → InForce (record { set = a .set; ink = a .ink; zone = a .zone; flash = f; inverse = v })
+plain f v h = record { set = h .set; ink = h .ink; zone = h .zone }
 
 four-in : {a : Attributes} (n : ℕ) → InForce a → InForce (columnFour a n)
 four-in {a} n h =
     chosen InForce (ltb n 8)
-    (λ e. record { set = h .set; ink = omega (arith, ltb-true n 8 e); ground = h .ground; waiting = h .waiting })
+    (λ e. record { set = h .set; ink = omega (arith, ltb-true n 8 e); zone = h .zone })
     (λ e. chosen InForce (eqb n 8) (λ f. plain _ (a .inverse) h)
     (λ f. chosen InForce (eqb n 9) (λ g. plain _ (a .inverse) h) (λ g. h)))
 
 five-in : {a : Attributes} (n : ℕ) → InForce a → InForce (columnFive a n)
 five-in {a} n h =
     chosen InForce (ltb n 8)
-    (λ e. record { set = h .set; ink = h .ink; ground = h .ground; waiting = omega (arith, ltb-true n 8 e) })
+    (λ e. record {
+      set = h .set;
+      ink = h .ink;
+      zone = record { ground = h .zone .ground; waiting = omega (arith, ltb-true n 8 e) };
+    })
     (λ e. chosen InForce (eqb n 12) (λ f. plain (a .flash) _ h)
     (λ f. chosen InForce (eqb n 13)
     (λ g. chosen InForce (eqb (a .set) 1) (λ k. h) (λ k. plain (a .flash) _ h)) (λ g. h)))

@@ -3,20 +3,23 @@ use mathlib.Core.Bool.{Bool, true, false, cond, _&&_}
 use Prim.Native.Nat.{ℕ, _/_, _%_}
 use lib.Dec.{ltb, eqb}
 use Rattle.screen_attributes.specs.declared.Waiting.the-variants.{Ground}
+use Rattle.screen_attributes.specs.declared.Zone.{Zone}
 use Rattle.screen_attributes.specs.declared.Attributes.{Attributes}
-use Rattle.screen_attributes.specs.Attributing.{attributes}
 
 abbrev pub withInk : Attributes → ℕ → Attributes
-withInk a n = attributes (a .set) n (a .ground) (a .waiting) (a .flash) (a .inverse)
+withInk a n = record { set = a .set; ink = n; zone = a .zone; flash = a .flash; inverse = a .inverse }
+
+abbrev pub withZone : Attributes → Zone → Attributes
+withZone a z = record { set = a .set; ink = a .ink; zone = z; flash = a .flash; inverse = a .inverse }
 
 abbrev pub waitsFor : Attributes → ℕ → Attributes
-waitsFor a n = attributes (a .set) (a .ink) (a .ground) (Ground n) (a .flash) (a .inverse)
+waitsFor a n = withZone a (record { ground = a .zone .ground; waiting = Ground n })
 
 abbrev pub withFlash : Attributes → Bool → Attributes
-withFlash a on = attributes (a .set) (a .ink) (a .ground) (a .waiting) on (a .inverse)
+withFlash a on = record { set = a .set; ink = a .ink; zone = a .zone; flash = on; inverse = a .inverse }
 
 abbrev pub withInverse : Attributes → Bool → Attributes
-withInverse a on = attributes (a .set) (a .ink) (a .ground) (a .waiting) (a .flash) on
+withInverse a on = record { set = a .set; ink = a .ink; zone = a .zone; flash = a .flash; inverse = on }
 
 -- "5/D inverse (no action in G1)"
 abbrev pub reversed : Attributes → Attributes

@@ -6,6 +6,7 @@ ghost use mathlib.Core.Path.{_≡_};
 ghost use Rattle.screen_escapes.specs.Pairing.{waitsFor, columnFour, columnFive, paired};
 use screen_attributes::Attributes;
 use screen_attributes::Waiting;
+use screen_attributes::Zone;
 
 // ESC and a code of column 4.
 fn column_four(mut attributes: Attributes, row: u8) -> Attributes
@@ -29,17 +30,15 @@ fn column_four(mut attributes: Attributes, row: u8) -> Attributes
 }
 
 // This ground waits.
-fn waiting_for(attributes: Attributes, colour: u8) -> Attributes
+fn waiting_for(mut attributes: Attributes, colour: u8) -> Attributes
     ensures { λ r. ⌜ r ≡ waitsFor attributes colour ⌝ }
 {
-    Attributes {
-        set: attributes.set,
-        ink: attributes.ink,
-        ground: attributes.ground,
+    let zone = Zone {
+        ground: attributes.zone.ground,
         waiting: Waiting::Ground(colour),
-        flash: attributes.flash,
-        inverse: attributes.inverse,
-    }
+    };
+    attributes.zone = zone;
+    attributes
 }
 
 // ESC and a code of column 5. Inverse is no action in G1.

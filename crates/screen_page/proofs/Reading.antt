@@ -7,7 +7,7 @@ use lib.ListN.{getD-replicate}
 use Rattle.screen_cursor.specs.declared.Place.{Place}
 use Rattle.screen_cursor.specs.Places.{at, On, onScreen, indexOf}
 use Rattle.screen_cursor.proofs.Tested.{on-true, true-on, index-low}
-use Rattle.screen_cells.specs.Characters.{blankOf}
+use Rattle.screen_cells.specs.Cells.{blankOf}
 use Rattle.screen_page.specs.declared.Screen.{Screen}
 use Rattle.screen_page.specs.declared.Read.{Read}
 use Rattle.screen_page.specs.declared.Read.the-variants.{Broken as Unread, Off, There}
@@ -34,7 +34,7 @@ unfolding pointed
 cursor-number s = go (broken s) (s .pen .shown)
   where
     go : (t u : Bool)
-        → cursorNumber (cond t Lost (cond u (Shown (s .pen .place)) (Hidden (s .pen .place))))
+        → cursorNumber (cond t Lost (cond u (Shown (s .pen .here .place)) (Hidden (s .pen .here .place))))
         ≡ cond t (5 ∷ []) (0 ∷ [])
     go true u = refl
     go false true = refl
@@ -57,7 +57,7 @@ reads-off s r c e f = simp e (go (onScreen (at r c)) refl)
 
 -- the cursor's place, and whether it is shown
 pub points : (s : Screen) → broken s ≡ false
-    → pointed s ≡ cond (s .pen .shown) (Shown (s .pen .place)) (Hidden (s .pen .place))
+    → pointed s ≡ cond (s .pen .shown) (Shown (s .pen .here .place)) (Hidden (s .pen .here .place))
 unfolding pointed
 points s e = simp e
 

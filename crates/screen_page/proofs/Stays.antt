@@ -4,7 +4,7 @@ use mathlib.Core.Bool.{Bool, true, false, not}
 use mathlib.Core.List.{[], _∷_}
 use lib.ListN.{length, length-replicate}
 use Rattle.laws.proofs.Computed.{each}
-use Rattle.screen_cells.specs.Characters.{blankOf}
+use Rattle.screen_cells.specs.Cells.{blankOf}
 use Rattle.screen_sheet.specs.Within.{allGood}
 use Rattle.screen_sheet.proofs.Stays.{all-true, true-all, blanks-in}
 use Rattle.screen_pen.specs.Pens.{inRange as penInRange, InPen}

@@ -4,9 +4,10 @@
 // specs/Pages says what a fresh screen is, specs/Ranges which are in range, specs/Reading what reading gives; proofs/
 // holds their laws.
 ghost use mathlib.Core.Path.{_≡_};
+ghost use Rattle.screen_cursor.specs.Places.{On};
 ghost use Rattle.screen_page.specs.Pages.{freshScreen};
 ghost use Rattle.screen_page.specs.Ranges.{broken};
-ghost use Rattle.screen_page.specs.Reading.{read, pointed};
+ghost use Rattle.screen_page.specs.Reading.{seenAt, read, pointed};
 use screen_cells::Cell;
 use screen_cursor::Place;
 use screen_pen::Pen;
@@ -56,7 +57,17 @@ impl Screen {
         true
     }
 
-    // The cell at a row, from 0, and a column, from 1.
+    // The cell that is seen at a place, which is the one that is stored there. Whatever shows a page comes by here.
+    fn seen(self, place: Place) -> Cell
+        requires { ⌜ On place ⌝ }
+        ensures { λ r. ⌜ r ≡ seenAt self place ⌝ }
+    {
+        let at = place.index();
+        let cell = self.cells[at];
+        cell
+    }
+
+    // What is seen at a row, from 0, and a column, from 1.
     pub fn cell(self, row: u8, column: u8) -> Read
         ensures { λ r. ⌜ r ≡ read self row column ⌝ }
     {
@@ -65,9 +76,7 @@ impl Screen {
         }
         let place = Place { row, column };
         if place.on_screen() {
-            let at = place.index();
-            let cell = self.cells[at];
-            return Read::There(cell);
+            return Read::There(self.seen(place));
         }
         Read::Off
     }
@@ -79,7 +88,7 @@ impl Screen {
         if self.is_broken() {
             return Cursor::Broken;
         }
-        let place = self.pen.place;
+        let place = self.pen.here.place;
         if self.pen.shown {
             return Cursor::Shown(place);
         }

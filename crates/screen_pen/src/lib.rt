@@ -9,11 +9,12 @@ ghost use Rattle.screen_pen.specs.Pens.{freshPen};
 ghost use Rattle.screen_pen.specs.Strokes.{stroke as strokeOf};
 use screen_attributes::Attributes;
 use screen_cells::Cell;
+use screen_cells::Character;
 use screen_cursor::Place;
 use screen_sequences::Sequence;
 
-// What was held before US entered row 0; at the start, the start's.
-pub struct Kept {
+// A place, and the attributes in force there.
+pub struct Spot {
     pub place: Place,
     pub attributes: Attributes,
 }
@@ -21,13 +22,13 @@ pub struct Kept {
 // The last character written. Only a fresh pen has none.
 pub enum Last {
     Never,
-    Character { set: u8, code: u8 },
+    Was(Character),
 }
 
 pub struct Pen {
-    pub place: Place,
-    pub attributes: Attributes,
-    pub kept: Kept,
+    pub here: Spot,
+    // Where it was before US entered row 0; at the start, the start's.
+    pub kept: Spot,
     pub last: Last,
     pub sequence: Sequence,
     pub shown: bool,
@@ -44,16 +45,13 @@ impl Pen {
     pub fn fresh() -> Pen
         ensures { λ r. ⌜ r ≡ freshPen ⌝ }
     {
-        let place = Place { row: 1, column: 1 };
-        let start = screen_attributes::start();
-        let kept = Kept {
-            place,
-            attributes: start,
+        let start = Spot {
+            place: Place { row: 1, column: 1 },
+            attributes: screen_attributes::start(),
         };
         Pen {
-            place,
-            attributes: start,
-            kept,
+            here: start,
+            kept: start,
             last: Last::Never,
             sequence: Sequence::Free,
             shown: false,
@@ -61,20 +59,20 @@ impl Pen {
     }
 
     // One character at the cursor: with the attributes of the moment, and the cursor moves right.
-    pub fn write(self, set: u8, code: u8) -> Stroke
-        ensures { λ r. ⌜ r ≡ strokeOf self set code ⌝ }
+    pub fn write(self, character: Character) -> Stroke
+        ensures { λ r. ⌜ r ≡ strokeOf self character ⌝ }
     {
-        let written = screen_writing::write(self.attributes, set, code);
-        let attributes = written.attributes;
+        let written = screen_writing::write(self.here.attributes, character);
         let cell = written.cell;
-        let place = screen_motion::right(self.place);
+        let attributes = written.attributes;
+        let place = screen_motion::right(self.here.place);
+        let here = Spot { place, attributes };
         let kept = self.kept;
         let sequence = self.sequence;
         let pen = Pen {
-            place,
-            attributes,
+            here,
             kept,
-            last: Last::Character { set, code },
+            last: Last::Was(character),
             sequence,
             shown: self.shown,
         };

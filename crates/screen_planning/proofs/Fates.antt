@@ -15,84 +15,87 @@ use Rattle.screen_sequences.specs.declared.Order.the-variants.{Skip, Left, Righ
 use Rattle.screen_sequences.specs.declared.Order.the-variants.{ShiftOut, ShiftIn, Show, Hide, Pair, Go, Write}
 use Rattle.screen_sequences.specs.declared.Order.the-variants.{Second, Again}
 use Rattle.screen_sequences.specs.Sequences.{heard}
+use Rattle.screen_cells.specs.declared.Character.{Character}
+use Rattle.screen_cells.specs.Characters.{takes}
 use Rattle.screen_attributes.specs.declared.Waiting.{Waiting}
 use Rattle.screen_attributes.specs.declared.Waiting.the-variants.{Nothing, Ground}
+use Rattle.screen_attributes.specs.declared.Zone.{Zone}
 use Rattle.screen_attributes.specs.declared.Attributes.{Attributes}
-use Rattle.screen_attributes.specs.Attributing.{grounds}
 use Rattle.screen_escapes.specs.Pairing.{paired, namesGround}
 use Rattle.screen_escapes.proofs.Grounds.{pair-ground, pair-others}
-use Rattle.screen_writing.specs.Writing.{takes, afterWaiting, afterWriting}
-use Rattle.screen_writing.proofs.Takers.{written-twice}
+use Rattle.screen_writing.specs.Writing.{afterWaiting, afterWriting}
+use Rattle.screen_writing.proofs.Twice.{written-twice}
 use Rattle.screen_pen.specs.declared.Last.{Last}
-use Rattle.screen_pen.specs.declared.Last.the-variants.{Never, Character}
+use Rattle.screen_pen.specs.declared.Last.the-variants.{Never, Was}
 use Rattle.screen_pen.specs.declared.Pen.{Pen}
 use Rattle.screen_pen.specs.Strokes.{afterTimes}
-use Rattle.screen_planning.specs.Changing.{withPlace, withAttributes, withSequence}
+use Rattle.screen_planning.specs.Changing.{withHere, withPlace, withSequence}
 use Rattle.screen_planning.specs.Obeying.{again, gone, obeyed}
 use Rattle.screen_planning.specs.Planning.{finished, afterOrder, unfinished, ordered, penAfter}
 use Rattle.screen_planning.specs.Grounds.{Fate, taken, awaited, dropped, broughtBack, leftAlone}
 use Rattle.screen_planning.specs.Grounds.{takenWhere, againFate, fate, takenFrom, outcome}
 
 module _ (p : Pen) where
+  abbrev zone : Zone
+  zone = p .here .attributes .zone
+
   -- ---- a character written
 
   -- one that takes a ground, or does not
-  marked : (t : Bool) (w : Waiting) → p .attributes .waiting ≡ w
-      → grounds (afterWaiting w (p .attributes) t) ≡ outcome p (takenWhere t)
+  marked : (t : Bool) (w : Waiting) → zone .waiting ≡ w → afterWaiting w zone t ≡ outcome p (takenWhere t)
   marked true Nothing e =
-      ap (λ (w : Waiting). (p .attributes .ground, w)) e
-      ∙ sym (ap (λ (w : Waiting). (takenFrom w (p .attributes .ground), Nothing)) e)
-  marked true (Ground g) e = sym (ap (λ (w : Waiting). (takenFrom w (p .attributes .ground), Nothing)) e)
+      ap (λ (w : Waiting). record { ground = zone .ground; waiting = w }) e
+      ∙ sym (ap (λ (w : Waiting). record { ground = takenFrom w (zone .ground); waiting = Nothing }) e)
+  marked true (Ground g) e =
+      sym (ap (λ (w : Waiting). record { ground = takenFrom w (zone .ground); waiting = Nothing }) e)
   marked false Nothing e = refl
   marked false (Ground g) e = refl
 
   -- once, and the same one again and again
-  times : (s d n : ℕ) → afterTimes p s d (suc n) .attributes ≡ afterWriting (p .attributes) s d
+  times : (x : Character) (n : ℕ) → afterTimes p x (suc n) .here .attributes ≡ afterWriting (p .here .attributes) x
   unfolding afterTimes
-  times s d zero = refl
-  times s d (suc n) =
-      ap (λ (a : Attributes). afterWriting a s d) (times s d n) ∙ written-twice (p .attributes) s d
+  times x zero = refl
+  times x (suc n) = ap (λ (a : Attributes). afterWriting a x) (times x n) ∙ written-twice (p .here .attributes) x
 
-  written-fate : (s d n : ℕ) → grounds (afterTimes p s d (suc n) .attributes) ≡ outcome p (takenWhere (takes s d))
-  written-fate s d n = ap grounds (times s d n) ∙ marked (takes s d) (p .attributes .waiting) refl
+  written-fate : (x : Character) (n : ℕ)
+      → afterTimes p x (suc n) .here .attributes .zone ≡ outcome p (takenWhere (takes x))
+  written-fate x n = ap (λ (a : Attributes). a .zone) (times x n) ∙ marked (takes x) (zone .waiting) refl
 
   last-fate : (l : Last) (n : ℕ)
-      → grounds (finished (again p l n .pen) (again p l n .asked) .attributes) ≡ outcome p (againFate l n)
+      → finished (again p l n .pen) (again p l n .asked) .here .attributes .zone ≡ outcome p (againFate l n)
   unfolding afterTimes
   last-fate Never n = refl
-  last-fate (Character s d) zero = refl
-  last-fate (Character s d) (suc n) = written-fate s d n
+  last-fate (Was x) zero = refl
+  last-fate (Was x) (suc n) = written-fate x n
 
   -- ---- the other orders
 
   pair-fate : (c : ℕ)
-      → grounds (paired (p .attributes) c) ≡ outcome p (cond (namesGround c) (awaited (c % 16)) leftAlone)
+      → paired (p .here .attributes) c .zone ≡ outcome p (cond (namesGround c) (awaited (c % 16)) leftAlone)
   pair-fate c =
-      chosen (λ (f : Fate). grounds (paired (p .attributes) c) ≡ outcome p f) (namesGround c)
-      (λ t. pair-ground (p .attributes) c t) (λ t. pair-others (p .attributes) c t)
+      chosen (λ (f : Fate). paired (p .here .attributes) c .zone ≡ outcome p f) (namesGround c)
+      (λ t. pair-ground (p .here .attributes) c t) (λ t. pair-others (p .here .attributes) c t)
 
   go-fate : (t : Bool) (x : Place)
-      → grounds (gone p (cond t (There x) Nowhere) .attributes) ≡ outcome p (cond t dropped leftAlone)
+      → gone p (cond t (There x) Nowhere) .here .attributes .zone ≡ outcome p (cond t dropped leftAlone)
   unfolding gone
   go-fate true x = refl
   go-fate false x = refl
 
   down-fate : (t : Bool)
-      → grounds
-      (cond t (withAttributes (withPlace p (p .kept .place)) (p .kept .attributes)) (withPlace p (downOf (p .place)))
-      .attributes)
+      → cond t (withHere p (p .kept)) (withPlace p (downOf (p .here .place))) .here .attributes .zone
       ≡ outcome p (cond t broughtBack leftAlone)
   down-fate true = refl
   down-fate false = refl
 
   -- after any order
-  pub order-fate : (o : Order) → grounds (afterOrder p o .attributes) ≡ outcome p (fate p o)
+  pub order-fate : (o : Order) → afterOrder p o .here .attributes .zone ≡ outcome p (fate p o)
   unfolding obeyed
   order-fate Skip = refl
   order-fate Left = refl
   order-fate Right = refl
   order-fate Up = refl
-  order-fate Down = down-fate (eqb (p .place .row) 0)
+  order-fate Down = down-fate (eqb (p .here .place .row) 0)
   order-fate First = refl
   order-fate Clear = refl
   order-fate Home = refl
@@ -102,8 +105,8 @@ module _ (p : Pen) where
   order-fate Hide = refl
   order-fate (Pair c) = pair-fate c
   order-fate (Go r c) = go-fate (good r c) (at (r - 64) (c - 64))
-  order-fate (Write c) = written-fate (p .attributes .set) c 0
-  order-fate (Second c) = written-fate 2 c 0
+  order-fate (Write c) = written-fate _ 0
+  order-fate (Second c) = written-fate _ 0
   order-fate (Again n) = last-fate (p .last) n
 
 -- ---- what is unfinished does not matter
@@ -135,7 +138,7 @@ outcome-any p q broughtBack = refl
 outcome-any p q leftAlone = refl
 
 -- after any value
-pub value-fate : (p : Pen) (b : ℕ) → grounds (penAfter p b .attributes) ≡ outcome p (fate p (ordered p b))
+pub value-fate : (p : Pen) (b : ℕ) → penAfter p b .here .attributes .zone ≡ outcome p (fate p (ordered p b))
 value-fate p b =
     order-fate (unfinished p b) (ordered p b)
     ∙ ap (outcome (unfinished p b)) (fate-any p (heard (p .sequence) b .sequence) (ordered p b))

@@ -16,11 +16,12 @@ use Rattle.screen_sequences.specs.declared.Order.the-variants.{Skip, Left, Righ
 use Rattle.screen_sequences.specs.declared.Order.the-variants.{ShiftOut, ShiftIn, Show, Hide, Pair, Go, Write}
 use Rattle.screen_sequences.specs.declared.Order.the-variants.{Second, Again}
 use Rattle.screen_sequences.specs.Sequences.{heard}
+use Rattle.screen_cells.specs.declared.Character.{Character}
 use Rattle.screen_pen.specs.declared.Last.{Last}
-use Rattle.screen_pen.specs.declared.Last.the-variants.{Never, Character}
+use Rattle.screen_pen.specs.declared.Last.the-variants.{Never, Was}
 use Rattle.screen_pen.specs.declared.Pen.{Pen}
 use Rattle.screen_pen.specs.Strokes.{afterTimes}
-use Rattle.screen_planning.specs.Changing.{withPlace, withAttributes, withSequence}
+use Rattle.screen_planning.specs.Changing.{withHere, withPlace, withSequence}
 use Rattle.screen_planning.specs.Obeying.{again, entering, keeping, gone, obeyed}
 use Rattle.screen_planning.specs.Planning.{finished, afterOrder, unfinished, ordered, penAfter}
 use Rattle.screen_planning.specs.Lasts.{lastAfter}
@@ -30,11 +31,11 @@ again-last : (p : Pen) (l : Last) (n : ℕ) → p .last ≡ l
     → finished (again p l n .pen) (again p l n .asked) .last ≡ p .last
 unfolding afterTimes
 again-last p Never n e = refl
-again-last p (Character s d) zero e = refl
-again-last p (Character s d) (suc n) e = sym e
+again-last p (Was x) zero e = refl
+again-last p (Was x) (suc n) e = sym e
 
 down-last : (p : Pen) (t : Bool)
-    → cond t (withAttributes (withPlace p (p .kept .place)) (p .kept .attributes)) (withPlace p (downOf (p .place)))
+    → cond t (withHere p (p .kept)) (withPlace p (downOf (p .here .place)))
     .last
     ≡ p .last
 down-last p true = refl
@@ -48,7 +49,7 @@ enter-last p false u = refl
 go-last : (p : Pen) (a : Address) → gone p a .last ≡ p .last
 unfolding gone
 go-last p Nowhere = refl
-go-last p (There x) = enter-last p (eqb (x .row) 0) (eqb (p .place .row) 0)
+go-last p (There x) = enter-last p (eqb (x .row) 0) (eqb (p .here .place .row) 0)
 
 order-last : (p : Pen) (o : Order) → afterOrder p o .last ≡ lastAfter p o
 unfolding obeyed afterTimes
@@ -56,7 +57,7 @@ order-last p Skip = refl
 order-last p Left = refl
 order-last p Right = refl
 order-last p Up = refl
-order-last p Down = down-last p (eqb (p .place .row) 0)
+order-last p Down = down-last p (eqb (p .here .place .row) 0)
 order-last p First = refl
 order-last p Clear = refl
 order-last p Home = refl
@@ -99,9 +100,9 @@ value-last p b =
 
 isNever : Last → Bool
 isNever Never = true
-isNever (Character s d) = false
+isNever (Was x) = false
 
-written : {s d : ℕ} → Character s d ≡ Never → ⊥
+written : {x : Character} → Was x ≡ Never → ⊥
 unfolding isNever
 written e = holds (ap isNever e)
 

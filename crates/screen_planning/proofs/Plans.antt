@@ -9,6 +9,7 @@ use Rattle.screen_sequences.specs.declared.Order.the-variants.{Write}
 use Rattle.screen_sequences.specs.declared.Heard.{Heard}
 use Rattle.screen_sequences.specs.Sequences.{isFree, does, heard}
 use Rattle.screen_sequences.proofs.Codes.{free, heard-text}
+use Rattle.screen_cells.specs.Characters.{character}
 use Rattle.screen_pen.specs.declared.Pen.{Pen}
 use Rattle.screen_pen.specs.Pens.{inRange}
 use Rattle.screen_planning.specs.declared.Planned.{Planned}
@@ -28,9 +29,9 @@ pub plan-heard : (p : Pen) (b : ℕ) (h : Heard) → heard (p .sequence) b ≡ h
 plan-heard p b h e = ap (plannedBy p) e
 
 -- with nothing unfinished, a code from 2/0 is written in the current set, and the pen stays
-pub plan-text : (p : Pen) (b : ℕ) → isFree (p .sequence) ≡ true → 31 < b → planned p b ≡ puts p (p .attributes .set) b 1
+pub plan-text : (p : Pen) (b : ℕ) → isFree (p .sequence) ≡ true → 31 < b → planned p b ≡ puts p (character (p .here .attributes .set) b) 1
 unfolding obeyed
 plan-text p b e h =
     let f : p .sequence ≡ Free = free (p .sequence) e in
     plan-heard p b (does (Write b)) (ap (λ (q : Sequence). heard q b) f ∙ heard-text b h)
-    ∙ ap (λ (q : Sequence). puts (withSequence p q) (p .attributes .set) b 1) (sym f)
+    ∙ ap (λ (q : Sequence). puts (withSequence p q) (character (p .here .attributes .set) b) 1) (sym f)

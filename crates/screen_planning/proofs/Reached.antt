@@ -16,7 +16,7 @@ use Rattle.screen_sequences.specs.declared.Heard.{Heard}
 use Rattle.screen_sequences.specs.Sequences.{isSeparator, does, opens, begins, control, followed}
 use Rattle.screen_sequences.proofs.Stays.{none, also, among-in}
 use Rattle.screen_pen.specs.declared.Last.{Last}
-use Rattle.screen_pen.specs.declared.Last.the-variants.{Never, Character}
+use Rattle.screen_pen.specs.declared.Last.the-variants.{Never, Was}
 use Rattle.screen_pen.specs.declared.Pen.{Pen}
 use Rattle.screen_planning.specs.declared.Asked.{Asked}
 use Rattle.screen_planning.specs.declared.Asked.the-variants.{Nothing, Blank, Put}
@@ -30,17 +30,17 @@ use Rattle.screen_planning.proofs.Plans.{plannedBy}
 abbrev pub Asks : Bool → ℕ → Place → Place → Asked → Type 0
 Asks t n x y Nothing = Unit {0}
 Asks t n x y Blank = t ≡ true
-Asks t n x y (Put s d m) = (m ≤ n) × (y ≡ x)
+Asks t n x y (Put c m) = (m ≤ n) × (y ≡ x)
 
 -- so does the plan for what is heard
 abbrev Within : Pen → Bool → ℕ → Heard → Type 0
-Within p t n h = Asks t n (p .place) (plannedBy p h .pen .place) (plannedBy p h .asked)
+Within p t n h = Asks t n (p .here .place) (plannedBy p h .pen .here .place) (plannedBy p h .asked)
 
 module _ (p : Pen) (t : Bool) where
   again-asks : (l : Last) (n : ℕ)
-      → Asks t n (p .place) (again (withSequence p Free) l n .pen .place) (again (withSequence p Free) l n .asked)
+      → Asks t n (p .here .place) (again (withSequence p Free) l n .pen .here .place) (again (withSequence p Free) l n .asked)
   again-asks Never n = tt
-  again-asks (Character s d) n = (le-refl n, refl)
+  again-asks (Was x) n = (le-refl n, refl)
 
   -- a code from 2/0
   follow-asks : (q : Sequence) (c : ℕ) → Within p t (reach q c) (followed q c)
@@ -80,5 +80,5 @@ by-tests p q b false false true = tt
 by-tests p q b false false false = control-asks p b (eqb b 12 && true) (λ e. ap (λ (t : Bool). t && true) e)
 
 pub plan-asks : (p : Pen) (b : ℕ)
-    → Asks (clears (p .sequence) b) (writes (p .sequence) b) (p .place) (planned p b .pen .place) (planned p b .asked)
+    → Asks (clears (p .sequence) b) (writes (p .sequence) b) (p .here .place) (planned p b .pen .here .place) (planned p b .asked)
 plan-asks p b = by-tests p (p .sequence) b (eqb b 0) (ltb 31 b) (isSeparator (p .sequence))

@@ -6,14 +6,13 @@ use Prim.Native.Nat.{ℕ}
 use Rattle.screen_cursor.specs.declared.Place.{Place}
 use Rattle.screen_cursor.specs.Places.{at}
 use Rattle.screen_sequences.specs.declared.Sequence.the-variants.{Free}
-use Rattle.screen_attributes.specs.declared.Waiting.the-variants.{Nothing, Ground}
 use Rattle.screen_attributes.specs.declared.Attributes.{Attributes}
-use Rattle.screen_attributes.specs.Attributing.{attributes}
-use Rattle.screen_pen.specs.declared.Last.the-variants.{Never, Character}
+use Rattle.screen_attributes.proofs.Literal.{those, awaiting, flashing, inverted}
+use Rattle.screen_pen.specs.declared.Last.the-variants.{Never, Was}
 use Rattle.screen_pen.specs.declared.Pen.{Pen}
 use Rattle.screen_pen.specs.Pens.{freshPen}
 use Rattle.screen_pen.specs.Strokes.{afterTimes}
-use Rattle.screen_pen.proofs.Worked.{pen, start}
+use Rattle.screen_pen.proofs.Worked.{pen, character, start}
 use Rattle.screen_planning.specs.Obeying.{gone, obeyed}
 use Rattle.screen_planning.specs.Planning.{penAfter}
 
@@ -28,24 +27,24 @@ abbrev ready : List ℕ
 ready = 65 ∷ 17 ∷ 31 ∷ 71 ∷ 72 ∷ 27 ∷ 68 ∷ 31 ∷ 64 ∷ 65 ∷ 30 ∷ []
 
 abbrev held : Place → Attributes → Pen
-held x a = pen x a (at 7 8) (attributes 0 4 0 Nothing false false) (Character 0 65) Free true
+held x a = pen x a (at 7 8) (those 0 4 0) (Was (character 0 65)) Free true
 
 -- ESC 4/1, ESC 4/8, ESC 5/2, ESC 5/D: ink 1, flash, ground 2 waiting, inverse; and SO after them
 abbrev coloured : List ℕ
 coloured = 27 ∷ 65 ∷ 27 ∷ 72 ∷ 27 ∷ 82 ∷ 27 ∷ 93 ∷ []
 
 abbrev colours : Attributes
-colours = attributes 0 1 0 (Ground 2) true true
+colours = inverted (flashing (awaiting 2 (those 0 1 0)))
 
 abbrev mosaics : List ℕ
 mosaics = coloured ++ (14 ∷ [])
 
 abbrev inMosaics : Attributes
-inMosaics = attributes 1 1 0 (Ground 2) true false
+inMosaics = flashing (awaiting 2 (those 1 1 0))
 
 -- in row 0, entered from row 1, column 1
 abbrev inRow0 : ℕ → Attributes → Pen
-inRow0 c a = pen (at 0 c) a (at 1 1) start (Character 0 65) Free true
+inRow0 c a = pen (at 0 c) a (at 1 1) start (Was (character 0 65)) Free true
 
 -- US 4/5 4/6: row 5, column 6
 abbrev us56 : List ℕ
@@ -79,20 +78,20 @@ worked =
     ∷ then (31 ∷ 64 ∷ 104 ∷ mosaics ++ (9 ∷ [])) (inRow0 40 inMosaics)
     ∷ then (31 ∷ 64 ∷ 104 ∷ mosaics ++ (13 ∷ [])) (inRow0 1 inMosaics)
     ∷ then (31 ∷ 64 ∷ 104 ∷ 65 ∷ []) (inRow0 40 start)
-    ∷ then (31 ∷ 64 ∷ 104 ∷ mosaics ++ (10 ∷ [])) (pen (at 1 1) start (at 1 1) start (Character 0 65) Free true)
+    ∷ then (31 ∷ 64 ∷ 104 ∷ mosaics ++ (10 ∷ [])) (pen (at 1 1) start (at 1 1) start (Was (character 0 65)) Free true)
     -- COFF; COFF and CON
     ∷ then (mosaics ++ (20 ∷ []))
-    (pen (at 1 1) inMosaics (at 7 8) (attributes 0 4 0 Nothing false false) (Character 0 65) Free false)
+    (pen (at 1 1) inMosaics (at 7 8) (those 0 4 0) (Was (character 0 65)) Free false)
     ∷ then (mosaics ++ (20 ∷ 17 ∷ [])) (held (at 1 1) inMosaics)
     -- ESC pairs; ESC 4/9 and ESC 5/C; ESC 5/8 and ESC 3/1 do nothing
     ∷ then coloured (held (at 1 1) colours)
-    ∷ then (coloured ++ (27 ∷ 73 ∷ 27 ∷ 92 ∷ [])) (held (at 1 1) (attributes 0 1 0 (Ground 2) false false))
+    ∷ then (coloured ++ (27 ∷ 73 ∷ 27 ∷ 92 ∷ [])) (held (at 1 1) (awaiting 2 (those 0 1 0)))
     ∷ then (coloured ++ (27 ∷ 88 ∷ 27 ∷ 49 ∷ [])) (held (at 1 1) colours)
     -- SO; SO and ESC 5/D; SI; SO and SI
     ∷ then mosaics (held (at 1 1) inMosaics)
     ∷ then (mosaics ++ (27 ∷ 93 ∷ [])) (held (at 1 1) inMosaics)
     ∷ then (coloured ++ (15 ∷ [])) (held (at 1 1) colours)
-    ∷ then (mosaics ++ (15 ∷ [])) (held (at 1 1) (attributes 0 1 0 (Ground 2) true false))
+    ∷ then (mosaics ++ (15 ∷ [])) (held (at 1 1) (flashing (awaiting 2 (those 0 1 0))))
     -- FF, RS and a good US
     ∷ then (mosaics ++ (9 ∷ 12 ∷ [])) (held (at 1 1) start)
     ∷ then (mosaics ++ (9 ∷ 30 ∷ [])) (held (at 1 1) start)
@@ -102,22 +101,22 @@ worked =
     ∷ then (us56 ++ (mosaics ++ (31 ∷ 65 ∷ 105 ∷ []))) (held (at 5 6) inMosaics)
     -- US into row 0 from row 5 and ESC 4/3; another US within row 0, and LF; LF, and RS
     ∷ then (us56 ++ (mosaics ++ (31 ∷ 64 ∷ 65 ∷ 27 ∷ 67 ∷ [])))
-    (pen (at 0 1) (attributes 0 3 0 Nothing false false) (at 5 6) inMosaics (Character 0 65) Free true)
+    (pen (at 0 1) (those 0 3 0) (at 5 6) inMosaics (Was (character 0 65)) Free true)
     ∷ then (us56 ++ (mosaics ++ (31 ∷ 64 ∷ 65 ∷ 27 ∷ 67 ∷ 31 ∷ 64 ∷ 66 ∷ 10 ∷ [])))
-    (pen (at 5 6) inMosaics (at 5 6) inMosaics (Character 0 65) Free true)
+    (pen (at 5 6) inMosaics (at 5 6) inMosaics (Was (character 0 65)) Free true)
     ∷ then (us56 ++ (mosaics ++ (31 ∷ 64 ∷ 65 ∷ 10 ∷ 30 ∷ [])))
-    (pen (at 1 1) start (at 5 6) inMosaics (Character 0 65) Free true)
+    (pen (at 1 1) start (at 5 6) inMosaics (Was (character 0 65)) Free true)
     -- REP 4/3; SS2 3/0, and REP 4/2; REP with no last character
     ∷ then (18 ∷ 67 ∷ []) (held (at 1 4) start)
     ∷ then (25 ∷ 48 ∷ 18 ∷ 66 ∷ [])
-    (pen (at 1 4) start (at 7 8) (attributes 0 4 0 Nothing false false) (Character 2 48) Free true)
+    (pen (at 1 4) start (at 7 8) (those 0 4 0) (Was (character 2 48)) Free true)
     ∷ (18 ∷ 67 ∷ [], pen (at 1 1) start (at 1 1) start Never Free false)
     -- ESC 5/2 and A; ESC 5/2 and a space; ESC 5/2, SO and a mosaic
-    ∷ then (27 ∷ 82 ∷ 65 ∷ []) (held (at 1 2) (attributes 0 7 0 (Ground 2) false false))
-    ∷ (27 ∷ 82 ∷ 32 ∷ [], pen (at 1 2) (attributes 0 7 2 Nothing false false) (at 1 1) start (Character 0 32) Free false)
+    ∷ then (27 ∷ 82 ∷ 65 ∷ []) (held (at 1 2) (awaiting 2 (those 0 7 0)))
+    ∷ (27 ∷ 82 ∷ 32 ∷ [], pen (at 1 2) (those 0 7 2) (at 1 1) start (Was (character 0 32)) Free false)
     ∷ (
       27 ∷ 82 ∷ 14 ∷ 65 ∷ [],
-      pen (at 1 2) (attributes 1 7 2 Nothing false false) (at 1 1) start (Character 1 65) Free false,
+      pen (at 1 2) (those 1 7 2) (at 1 1) start (Was (character 1 65)) Free false,
     )
     ∷ []
 

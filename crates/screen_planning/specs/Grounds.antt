@@ -7,13 +7,13 @@ use Rattle.screen_sequences.specs.declared.Order.{Order}
 use Rattle.screen_sequences.specs.declared.Order.the-variants.{Skip, Left, Right, Up, Down, First, Clear, Home}
 use Rattle.screen_sequences.specs.declared.Order.the-variants.{ShiftOut, ShiftIn, Show, Hide, Pair, Go, Write}
 use Rattle.screen_sequences.specs.declared.Order.the-variants.{Second, Again}
+use Rattle.screen_cells.specs.Characters.{character, takes}
 use Rattle.screen_attributes.specs.declared.Waiting.{Waiting}
 use Rattle.screen_attributes.specs.declared.Waiting.the-variants.{Nothing, Ground}
-use Rattle.screen_attributes.specs.Attributing.{grounds}
+use Rattle.screen_attributes.specs.declared.Zone.{Zone}
 use Rattle.screen_escapes.specs.Pairing.{namesGround}
-use Rattle.screen_writing.specs.Writing.{takes}
 use Rattle.screen_pen.specs.declared.Last.{Last}
-use Rattle.screen_pen.specs.declared.Last.the-variants.{Never, Character}
+use Rattle.screen_pen.specs.declared.Last.the-variants.{Never, Was}
 use Rattle.screen_pen.specs.declared.Pen.{Pen}
 
 pub data Fate : Type 0 where
@@ -34,20 +34,20 @@ takenWhere t = cond t taken leftAlone
 -- the last character written n times more: "by REP at least once"
 abbrev pub againFate : Last → ℕ → Fate
 againFate Never n = leftAlone
-againFate (Character s d) zero = leftAlone
-againFate (Character s d) (suc n) = takenWhere (takes s d)
+againFate (Was c) zero = leftAlone
+againFate (Was c) (suc n) = takenWhere (takes c)
 
 -- by what is ordered: a character that takes a ground, ESC 5/x, FF, RS, a good US, LF in row 0; every other order leaves
 -- grounds alone
 abbrev pub fate : Pen → Order → Fate
-fate p (Write c) = takenWhere (takes (p .attributes .set) c)
-fate p (Second c) = takenWhere (takes 2 c)
+fate p (Write d) = takenWhere (takes (character (p .here .attributes .set) d))
+fate p (Second d) = takenWhere (takes (character 2 d))
 fate p (Again n) = againFate (p .last) n
 fate p (Pair c) = cond (namesGround c) (awaited (c % 16)) leftAlone
 fate p Clear = dropped
 fate p Home = dropped
 fate p (Go r c) = cond (good r c) dropped leftAlone
-fate p Down = cond (eqb (p .place .row) 0) broughtBack leftAlone
+fate p Down = cond (eqb (p .here .place .row) 0) broughtBack leftAlone
 fate p Skip = leftAlone
 fate p Left = leftAlone
 fate p Right = leftAlone
@@ -64,9 +64,10 @@ takenFrom Nothing g = g
 takenFrom (Ground x) g = x
 
 -- the ground in force and what waits after a fate
-abbrev pub outcome : Pen → Fate → ℕ × Waiting
-outcome p taken = (takenFrom (p .attributes .waiting) (p .attributes .ground), Nothing)
-outcome p (awaited x) = (p .attributes .ground, Ground x)
-outcome p dropped = (0, Nothing)
-outcome p broughtBack = grounds (p .kept .attributes)
-outcome p leftAlone = grounds (p .attributes)
+abbrev pub outcome : Pen → Fate → Zone
+outcome p taken =
+    let z = p .here .attributes .zone in record { ground = takenFrom (z .waiting) (z .ground); waiting = Nothing }
+outcome p (awaited x) = record { ground = p .here .attributes .zone .ground; waiting = Ground x }
+outcome p dropped = record { ground = 0; waiting = Nothing }
+outcome p broughtBack = p .kept .attributes .zone
+outcome p leftAlone = p .here .attributes .zone

@@ -3,14 +3,15 @@ use Rattle.screen_sequences.specs.declared.Order.{Order}
 use Rattle.screen_sequences.specs.declared.Order.the-variants.{Skip, Left, Right, Up, Down, First, Clear, Home}
 use Rattle.screen_sequences.specs.declared.Order.the-variants.{ShiftOut, ShiftIn, Show, Hide, Pair, Go, Write}
 use Rattle.screen_sequences.specs.declared.Order.the-variants.{Second, Again}
+use Rattle.screen_cells.specs.Characters.{character}
 use Rattle.screen_pen.specs.declared.Last.{Last}
-use Rattle.screen_pen.specs.declared.Last.the-variants.{Character}
+use Rattle.screen_pen.specs.declared.Last.the-variants.{Was}
 use Rattle.screen_pen.specs.declared.Pen.{Pen}
 
 -- by what is ordered: a character, of the current set or of G2; every other order leaves it, REP too, which writes it
 abbrev pub lastAfter : Pen → Order → Last
-lastAfter p (Write c) = Character (p .attributes .set) c
-lastAfter p (Second c) = Character 2 c
+lastAfter p (Write d) = Was (character (p .here .attributes .set) d)
+lastAfter p (Second d) = Was (character 2 d)
 lastAfter p (Again n) = p .last
 lastAfter p (Pair c) = p .last
 lastAfter p (Go r c) = p .last

@@ -12,15 +12,17 @@ use Rattle.screen_sequences.specs.declared.Order.{Order}
 use Rattle.screen_sequences.specs.declared.Order.the-variants.{Skip, Left, Right, Up, Down, First, Clear, Home}
 use Rattle.screen_sequences.specs.declared.Order.the-variants.{ShiftOut, ShiftIn, Show, Hide, Pair, Go, Write}
 use Rattle.screen_sequences.specs.declared.Order.the-variants.{Second, Again}
+use Rattle.screen_cells.specs.declared.Character.{Character}
+use Rattle.screen_cells.specs.Characters.{character}
 use Rattle.screen_attributes.specs.Attributing.{startOf, shiftedOut, shiftedIn}
 use Rattle.screen_escapes.specs.Pairing.{paired}
 use Rattle.screen_pen.specs.declared.Last.{Last}
-use Rattle.screen_pen.specs.declared.Last.the-variants.{Never, Character}
+use Rattle.screen_pen.specs.declared.Last.the-variants.{Never, Was}
 use Rattle.screen_pen.specs.declared.Pen.{Pen}
 use Rattle.screen_planning.specs.declared.Asked.{Asked}
 use Rattle.screen_planning.specs.declared.Asked.the-variants.{Nothing, Blank, Put}
 use Rattle.screen_planning.specs.declared.Planned.{Planned}
-use Rattle.screen_planning.specs.Changing.{withPlace, withAttributes, withShown}
+use Rattle.screen_planning.specs.Changing.{withHere, withPlace, withAttributes, withKept, withShown}
 
 -- ---- what is asked
 
@@ -30,14 +32,14 @@ asks p o = record { pen = p; asked = o }
 abbrev pub keeps : Pen → Planned
 keeps p = asks p Nothing
 
-abbrev pub puts : Pen → ℕ → ℕ → ℕ → Planned
-puts p s d n = asks p (Put s d n)
+abbrev pub puts : Pen → Character → ℕ → Planned
+puts p c n = asks p (Put c n)
 
 -- "the last character written, its set and code, is written n minus 64 times more"; "Only a fresh screen has no last
 -- character; then nothing happens"
 abbrev pub repeats : Last → ℕ → Asked
 repeats Never n = Nothing
-repeats (Character s d) n = Put s d n
+repeats (Was c) n = Put c n
 
 abbrev pub again : Pen → Last → ℕ → Planned
 again p l n = asks p (repeats l n)
@@ -46,29 +48,21 @@ again p l n = asks p (repeats l n)
 
 -- "cursor there, start attributes"
 abbrev pub startAt : Pen → Place → Pen
-startAt p x = withAttributes (withPlace p x) startOf
+startAt p x = withHere p (record { place = x; attributes = startOf })
 
 -- LF; in row 0 it "returns to the place and attributes held before the last US that entered row 0 from another row"
 abbrev pub lowered : Pen → Pen
 lowered p =
-    cond (eqb (p .place .row) 0)
-    (withAttributes (withPlace p (p .kept .place)) (p .kept .attributes))
-    (withPlace p (downOf (p .place)))
+    cond (eqb (p .here .place .row) 0)
+    (withHere p (p .kept))
+    (withPlace p (downOf (p .here .place)))
 
 abbrev pub keeping : Pen → Pen
-keeping p =
-    record {
-      place = p .place;
-      attributes = p .attributes;
-      kept = record { place = p .place; attributes = p .attributes };
-      last = p .last;
-      sequence = p .sequence;
-      shown = p .shown;
-    }
+keeping p = withKept p (p .here)
 
 -- what is held is kept where US enters row 0 from another row
 abbrev pub entering : Pen → ℕ → Pen
-entering p r = cond (eqb r 0) (cond (eqb (p .place .row) 0) p (keeping p)) p
+entering p r = cond (eqb r 0) (cond (eqb (p .here .place .row) 0) p (keeping p)) p
 
 -- US: "cursor there, start attributes; else all three dropped"
 unfoldable pub gone : Pen → Address → Pen
@@ -79,22 +73,22 @@ gone p (There x) = startAt (entering p (x .row)) x
 
 unfoldable pub obeyed : Pen → Order → Planned
 obeyed p Skip = keeps p
-obeyed p Left = keeps (withPlace p (leftOf (p .place)))
-obeyed p Right = keeps (withPlace p (rightOf (p .place)))
-obeyed p Up = keeps (withPlace p (upOf (p .place)))
+obeyed p Left = keeps (withPlace p (leftOf (p .here .place)))
+obeyed p Right = keeps (withPlace p (rightOf (p .here .place)))
+obeyed p Up = keeps (withPlace p (upOf (p .here .place)))
 obeyed p Down = keeps (lowered p)
-obeyed p First = keeps (withPlace p (firstOf (p .place)))
+obeyed p First = keeps (withPlace p (firstOf (p .here .place)))
 -- "FF: rows 1 to 24 blank, row 0 kept; cursor to row 1, column 1; start attributes. RS: the same without blanking"
 obeyed p Clear = asks (startAt p home) Blank
 obeyed p Home = keeps (startAt p home)
-obeyed p ShiftOut = keeps (withAttributes p (shiftedOut (p .attributes)))
-obeyed p ShiftIn = keeps (withAttributes p (shiftedIn (p .attributes)))
+obeyed p ShiftOut = keeps (withAttributes p (shiftedOut (p .here .attributes)))
+obeyed p ShiftIn = keeps (withAttributes p (shiftedIn (p .here .attributes)))
 -- "CON (1/1) and COFF (1/4) show and hide the cursor"
 obeyed p Show = keeps (withShown p true)
 obeyed p Hide = keeps (withShown p false)
-obeyed p (Pair c) = keeps (withAttributes p (paired (p .attributes) c))
+obeyed p (Pair c) = keeps (withAttributes p (paired (p .here .attributes) c))
 obeyed p (Go r c) = keeps (gone p (addressed r c))
 -- "Codes 2/0 to 7/F write a cell and move right"
-obeyed p (Write c) = puts p (p .attributes .set) c 1
-obeyed p (Second c) = puts p 2 c 1
+obeyed p (Write d) = puts p (character (p .here .attributes .set) d) 1
+obeyed p (Second d) = puts p (character 2 d) 1
 obeyed p (Again n) = again p (p .last) n

@@ -35,7 +35,7 @@ plan p b = cond (ltb 127 b) (keeps p) (cond (inRange p) (planned p b) (keeps p))
 abbrev pub finished : Pen → Asked → Pen
 finished p Nothing = p
 finished p Blank = p
-finished p (Put s d n) = afterTimes p s d n
+finished p (Put c n) = afterTimes p c n
 
 -- after an order, with all that it asks
 abbrev pub afterOrder : Pen → Order → Pen

@@ -1,38 +1,47 @@
 // A pen with one part changed, or moved: to a place, down, or to where US leads.
 ghost use mathlib.Core.Path.{_≡_};
-ghost use Rattle.screen_planning.specs.Changing.{withPlace, withAttributes, withSequence, withShown};
+ghost use Rattle.screen_planning.specs.Changing.{withHere, withPlace, withAttributes, withSequence, withShown};
 ghost use Rattle.screen_planning.specs.Obeying.{startAt, lowered, entering, gone};
 use screen_addresses::Address;
 use screen_attributes::Attributes;
 use screen_cursor::Place;
-use screen_pen::Kept;
 use screen_pen::Pen;
+use screen_pen::Spot;
 use screen_sequences::Sequence;
+
+pub(crate) fn with_here(mut pen: Pen, here: Spot) -> Pen
+    ensures { λ r. ⌜ r ≡ withHere pen here ⌝ }
+{
+    pen.here = here;
+    pen
+}
 
 pub(crate) fn with_place(mut pen: Pen, place: Place) -> Pen
     ensures { λ r. ⌜ r ≡ withPlace pen place ⌝ }
 {
-    pen.place = place;
+    let mut here = pen.here;
+    here.place = place;
+    pen.here = here;
     pen
 }
 
 pub(crate) fn with_attributes(mut pen: Pen, attributes: Attributes) -> Pen
     ensures { λ r. ⌜ r ≡ withAttributes pen attributes ⌝ }
 {
-    pen.attributes = attributes;
+    let mut here = pen.here;
+    here.attributes = attributes;
+    pen.here = here;
     pen
 }
 
 pub(crate) fn with_sequence(pen: Pen, sequence: Sequence) -> Pen
     ensures { λ r. ⌜ r ≡ withSequence pen sequence ⌝ }
 {
-    let place = pen.place;
-    let attributes = pen.attributes;
+    let here = pen.here;
     let kept = pen.kept;
     let last = pen.last;
     Pen {
-        place,
-        attributes,
+        here,
         kept,
         last,
         sequence,
@@ -51,18 +60,18 @@ pub(crate) fn with_shown(mut pen: Pen, shown: bool) -> Pen
 pub(crate) fn start_at(pen: Pen, place: Place) -> Pen
     ensures { λ r. ⌜ r ≡ startAt pen place ⌝ }
 {
-    let start = screen_attributes::start();
-    with_attributes(with_place(pen, place), start)
+    let attributes = screen_attributes::start();
+    with_here(pen, Spot { place, attributes })
 }
 
 // LF: in row 0 back to what was kept.
 pub(crate) fn go_down(pen: Pen) -> Pen
     ensures { λ r. ⌜ r ≡ lowered pen ⌝ }
 {
-    if pen.place.row == 0 {
-        with_attributes(with_place(pen, pen.kept.place), pen.kept.attributes)
+    if pen.here.place.row == 0 {
+        with_here(pen, pen.kept)
     } else {
-        with_place(pen, screen_motion::down(pen.place))
+        with_place(pen, screen_motion::down(pen.here.place))
     }
 }
 
@@ -71,13 +80,11 @@ fn enter(mut pen: Pen, row: u8) -> Pen
     ensures { λ r. ⌜ r ≡ entering pen row ⌝ }
 {
     if row == 0 {
-        if pen.place.row == 0 {
+        if pen.here.place.row == 0 {
             return pen;
         }
-        let place = pen.place;
-        let attributes = pen.attributes;
-        let kept = Kept { place, attributes };
-        pen.kept = kept;
+        let here = pen.here;
+        pen.kept = here;
         return pen;
     }
     pen

@@ -13,6 +13,7 @@ mod orders;
 use changing::with_sequence;
 use orders::keep_cells;
 use orders::obey;
+use screen_cells::Character;
 use screen_pen::Pen;
 
 // What is asked of the cells.
@@ -21,7 +22,7 @@ pub enum Asked {
     // Rows 1 to 24 blank.
     Blank,
     // A character, so many times.
-    Put { set: u8, code: u8, times: u8 },
+    Put { character: Character, times: u8 },
 }
 
 pub struct Planned {

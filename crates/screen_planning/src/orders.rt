@@ -9,6 +9,7 @@ use crate::changing::start_at;
 use crate::changing::with_attributes;
 use crate::changing::with_place;
 use crate::changing::with_shown;
+use screen_cells::Character;
 use screen_cursor::Place;
 use screen_pen::Last;
 use screen_pen::Pen;
@@ -30,7 +31,7 @@ fn repeat(last: Last, times: u8) -> Asked
 {
     match last {
         Last::Never => Asked::Nothing,
-        Last::Character { set, code } => Asked::Put { set, code, times },
+        Last::Was(character) => Asked::Put { character, times },
     }
 }
 
@@ -40,18 +41,18 @@ fn change(pen: Pen, order: Order) -> Pen
 {
     let home = Place { row: 1, column: 1 };
     match order {
-        Order::Left => with_place(pen, screen_motion::left(pen.place)),
-        Order::Right => with_place(pen, screen_motion::right(pen.place)),
-        Order::Up => with_place(pen, screen_motion::up(pen.place)),
+        Order::Left => with_place(pen, screen_motion::left(pen.here.place)),
+        Order::Right => with_place(pen, screen_motion::right(pen.here.place)),
+        Order::Up => with_place(pen, screen_motion::up(pen.here.place)),
         Order::Down => go_down(pen),
-        Order::First => with_place(pen, screen_motion::first(pen.place)),
+        Order::First => with_place(pen, screen_motion::first(pen.here.place)),
         Order::Clear => start_at(pen, home),
         Order::Home => start_at(pen, home),
-        Order::ShiftOut => with_attributes(pen, pen.attributes.shift_out()),
-        Order::ShiftIn => with_attributes(pen, pen.attributes.shift_in()),
+        Order::ShiftOut => with_attributes(pen, pen.here.attributes.shift_out()),
+        Order::ShiftIn => with_attributes(pen, pen.here.attributes.shift_in()),
         Order::Show => with_shown(pen, true),
         Order::Hide => with_shown(pen, false),
-        Order::Pair(code) => with_attributes(pen, screen_escapes::pair(pen.attributes, code)),
+        Order::Pair(code) => with_attributes(pen, screen_escapes::pair(pen.here.attributes, code)),
         Order::Go { row, column } => go(pen, screen_addresses::locate(row, column)),
         _ => pen,
     }
@@ -64,13 +65,14 @@ fn ask(pen: Pen, order: Order) -> Asked
     match order {
         Order::Clear => Asked::Blank,
         Order::Write(code) => Asked::Put {
-            set: pen.attributes.set,
-            code,
+            character: Character {
+                set: pen.here.attributes.set,
+                code,
+            },
             times: 1,
         },
         Order::Second(code) => Asked::Put {
-            set: 2,
-            code,
+            character: Character { set: 2, code },
             times: 1,
         },
         Order::Again(times) => {

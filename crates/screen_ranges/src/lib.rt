@@ -3,13 +3,14 @@
 // so.
 ghost use mathlib.Core.Path.{_≡_};
 ghost use Rattle.screen_sequences.specs.Sequences.{inRange as goodSequence};
-ghost use Rattle.screen_attributes.specs.Within.{goodWaiting, good};
+ghost use Rattle.screen_attributes.specs.Within.{goodWaiting, goodZone, good};
 ghost use Rattle.screen_pen.specs.Pens.{goodLast, goodSpot, inRange};
 use screen_attributes::Attributes;
 use screen_attributes::Waiting;
-use screen_cursor::Place;
+use screen_attributes::Zone;
 use screen_pen::Last;
 use screen_pen::Pen;
+use screen_pen::Spot;
 use screen_sequences::Sequence;
 
 fn last_in_range(last: Last) -> bool
@@ -17,7 +18,7 @@ fn last_in_range(last: Last) -> bool
 {
     match last {
         Last::Never => true,
-        Last::Character { set, code } => screen_cells::is_character(set, code),
+        Last::Was(character) => screen_cells::is_character(character),
     }
 }
 
@@ -30,6 +31,16 @@ fn waiting_in_range(waiting: Waiting) -> bool
     }
 }
 
+fn zone_in_range(zone: Zone) -> bool
+    ensures { λ r. ⌜ r ≡ goodZone zone ⌝ }
+{
+    if 7 < zone.ground {
+        return false;
+    }
+    let waiting = zone.waiting;
+    waiting_in_range(waiting)
+}
+
 fn attributes_in_range(attributes: Attributes) -> bool
     ensures { λ r. ⌜ r ≡ good attributes ⌝ }
 {
@@ -39,11 +50,7 @@ fn attributes_in_range(attributes: Attributes) -> bool
     if 7 < attributes.ink {
         return false;
     }
-    if 7 < attributes.ground {
-        return false;
-    }
-    let waiting = attributes.waiting;
-    waiting_in_range(waiting)
+    zone_in_range(attributes.zone)
 }
 
 // Whether the rules leave such a sequence unfinished.
@@ -72,11 +79,11 @@ fn sequence_in_range(sequence: Sequence) -> bool
 }
 
 // A place on the screen, with attributes in range.
-fn spot_in_range(place: Place, attributes: Attributes) -> bool
-    ensures { λ r. ⌜ r ≡ goodSpot place attributes ⌝ }
+fn spot_in_range(spot: Spot) -> bool
+    ensures { λ r. ⌜ r ≡ goodSpot spot ⌝ }
 {
-    if place.on_screen() {
-        attributes_in_range(attributes)
+    if spot.place.on_screen() {
+        attributes_in_range(spot.attributes)
     } else {
         false
     }
@@ -85,8 +92,8 @@ fn spot_in_range(place: Place, attributes: Attributes) -> bool
 pub fn in_range(pen: Pen) -> bool
     ensures { λ r. ⌜ r ≡ inRange pen ⌝ }
 {
-    if spot_in_range(pen.place, pen.attributes) {
-        if spot_in_range(pen.kept.place, pen.kept.attributes) {
+    if spot_in_range(pen.here) {
+        if spot_in_range(pen.kept) {
             let last = pen.last;
             if last_in_range(last) {
                 let sequence = pen.sequence;

@@ -7,13 +7,13 @@ use native.Mathlib.Omega.{arith}
 use lib.ListN.{length, getD, take, replicate, getD-replicate, List·getD-append}
 use lib.Seq.{getD-append-add, getD-take, length-take-le}
 use Rattle.screen_cells.specs.declared.Cell.{Cell}
-use Rattle.screen_cells.specs.Characters.{blankOf}
+use Rattle.screen_cells.specs.Cells.{blankOf}
 use Rattle.screen_sheet.specs.Clearing.{cleared}
 
 -- ---- written out: a screen full of A, cleared, at the ends of rows 0, 1 and 24
 
 abbrev letter : Cell
-letter = record { set = 0; code = 65; ink = 7; ground = 0; flash = false; inverse = false }
+letter = record { character = record { set = 0; code = 65 }; ink = 7; ground = 0; flash = false; inverse = false }
 
 abbrev Has : List Cell → List (ℕ × Cell) → Type 0
 Has cs [] = Unit {0}

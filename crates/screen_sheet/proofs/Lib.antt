@@ -1,3 +1,2 @@
-pub mod Written
 pub mod Stays
 pub mod Blanked

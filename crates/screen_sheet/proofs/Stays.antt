@@ -3,34 +3,19 @@ use mathlib.Core.Path.{_≡_, refl}
 use mathlib.Core.Bool.{true, false}
 use mathlib.Core.List.{List, [], _∷_, _++_}
 use Prim.Native.Nat.{ℕ, zero, suc}
-use lib.Dec.{leb, lit≤}
 use lib.ListN.{take, set, replicate}
-use borrow.Author.Tests.{leb-true, le-leb}
 use Rattle.laws.proofs.Computed.{each}
 use Rattle.screen_cells.specs.declared.Cell.{Cell}
-use Rattle.screen_cells.specs.Characters.{blankOf}
-use Rattle.screen_cells.specs.Within.{goodCharacter, InCell}
-use Rattle.screen_cells.proofs.Tested.{character-true, true-character}
+use Rattle.screen_cells.specs.Cells.{blankOf, goodCell, InCell}
+use Rattle.screen_cells.proofs.Tested.{cell-true, true-cell, blank-in}
 use Rattle.screen_sheet.specs.Clearing.{cleared}
-use Rattle.screen_sheet.specs.Within.{goodCell, allGood, AllIn, none, also}
+use Rattle.screen_sheet.specs.Within.{allGood, AllIn, none, also}
 
 -- what would be read past the end of the cells
 abbrev pub noCell : Cell
-noCell = record { set = 0; code = 0; ink = 0; ground = 0; flash = false; inverse = false }
+noCell = record { character = record { set = 0; code = 0 }; ink = 0; ground = 0; flash = false; inverse = false }
 
 -- ---- the tests are the ranges
-
-cell-true : {c : Cell} → InCell c → goodCell c ≡ true
-cell-true h = simp (le-leb _ _ (h .ink), le-leb _ _ (h .ground), character-true (h .character))
-
-true-cell : (c : Cell) → goodCell c ≡ true → InCell c
-true-cell c e =
-    let t = each (leb (c .ink) 7 ∷ leb (c .ground) 7 ∷ goodCharacter (c .set) (c .code) ∷ []) e in
-    record {
-      character = true-character (c .set) (c .code) (t .1 .1);
-      ink = leb-true _ _ (t .0);
-      ground = leb-true _ _ (t .1 .0);
-    }
 
 pub all-true : {cs : List Cell} → AllIn cs → allGood cs ≡ true
 unfolding allGood
@@ -43,10 +28,6 @@ true-all [] e = none
 true-all (c ∷ cs) e = let t = each (goodCell c ∷ allGood cs ∷ []) e in also (true-cell c (t .0)) (true-all cs (t .1))
 
 -- ---- what stays in range
-
-blank-in : InCell blankOf
-blank-in =
-    record { character = record { set = lit≤ tt; low = lit≤ tt; high = lit≤ tt }; ink = lit≤ tt; ground = lit≤ tt }
 
 pub all-set : {cs : List Cell} (i : ℕ) {c : Cell} → InCell c → AllIn cs → AllIn (set cs i c)
 all-set i k none = none

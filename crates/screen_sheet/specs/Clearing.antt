@@ -2,7 +2,7 @@
 use mathlib.Core.List.{List, _++_}
 use lib.ListN.{take, replicate}
 use Rattle.screen_cells.specs.declared.Cell.{Cell}
-use Rattle.screen_cells.specs.Characters.{blankOf}
+use Rattle.screen_cells.specs.Cells.{blankOf}
 
 -- "FF: rows 1 to 24 blank, row 0 kept"
 unfoldable pub cleared : List Cell → List Cell

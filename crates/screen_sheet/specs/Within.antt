@@ -1,14 +1,10 @@
--- Which cells are in range: "colours 0 to 7", and characters. Assumes nothing.
+-- Which thousand cells are in range: those of which each one is. Assumes nothing.
 use mathlib.Core.Bool.{Bool, true, _&&_}
 use mathlib.Core.List.{List, [], _∷_}
-use lib.Dec.{leb}
 use Rattle.screen_cells.specs.declared.Cell.{Cell}
-use Rattle.screen_cells.specs.Within.{goodCharacter, InCell}
+use Rattle.screen_cells.specs.Cells.{goodCell, InCell}
 
 -- ---- the test
-
-abbrev pub goodCell : Cell → Bool
-goodCell c = leb (c .ink) 7 && (leb (c .ground) 7 && goodCharacter (c .set) (c .code))
 
 unfoldable pub allGood : List Cell → Bool
 allGood [] = true

@@ -3,20 +3,8 @@
 // specs/Clearing says what is left of them, specs/Within which are in range; proofs/ holds their laws.
 ghost use mathlib.Core.Path.{_≡_};
 ghost use Rattle.screen_sheet.specs.Clearing.{cleared};
-ghost use Rattle.screen_sheet.specs.Within.{goodCell, allGood};
+ghost use Rattle.screen_sheet.specs.Within.{allGood};
 use screen_cells::Cell;
-
-fn cell_in_range(cell: Cell) -> bool
-    ensures { λ r. ⌜ r ≡ goodCell cell ⌝ }
-{
-    if 7 < cell.ink {
-        return false;
-    }
-    if 7 < cell.ground {
-        return false;
-    }
-    screen_cells::is_character(cell.set, cell.code)
-}
 
 // Whether all thousand are in range.
 pub fn in_range(cells: [Cell; 1000]) -> bool
@@ -25,7 +13,7 @@ pub fn in_range(cells: [Cell; 1000]) -> bool
     let mut i: usize = 0;
     while i < 1000 {
         let cell = cells[i];
-        if cell_in_range(cell) {
+        if screen_cells::in_range(cell) {
             i += 1;
         } else {
             return false;

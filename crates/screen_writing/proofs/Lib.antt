@@ -1,4 +1,4 @@
 pub mod Cells
 pub mod Stays
-pub mod Takers
+pub mod Twice
 pub mod Mosaics

@@ -1,34 +1,32 @@
 -- Attributes in range stay so when a character is written, and its cell is in range. Assumes nothing.
+use mathlib.Core.Path.{sym, subst}
 use mathlib.Core.Bool.{Bool}
-use Prim.Native.Nat.{ℕ}
 use native.Mathlib.Omega.{arith}
 use Rattle.laws.proofs.Computed.{chosen}
-use Rattle.screen_cells.specs.Within.{Character, InCell}
+use Rattle.screen_cells.specs.declared.Character.{Character}
+use Rattle.screen_cells.specs.Characters.{takes, InCharacter}
+use Rattle.screen_cells.specs.Cells.{InCell}
 use Rattle.screen_attributes.specs.declared.Waiting.{Waiting}
 use Rattle.screen_attributes.specs.declared.Waiting.the-variants.{Nothing, Ground}
+use Rattle.screen_attributes.specs.declared.Zone.{Zone}
 use Rattle.screen_attributes.specs.declared.Attributes.{Attributes}
-use Rattle.screen_attributes.specs.Within.{InWaiting, InForce}
-use Rattle.screen_writing.specs.Writing.{takes, afterWaiting, afterWriting, cellOf}
+use Rattle.screen_attributes.specs.Within.{InWaiting, InZone, InForce}
+use Rattle.screen_writing.specs.Writing.{afterWaiting, afterWriting, cellOf}
 use Rattle.screen_writing.proofs.Cells.{cell-has}
 
-waited-in : {a : Attributes} (w : Waiting) (t : Bool) → InWaiting w → InForce a → InForce (afterWaiting w a t)
+waited-in : {z : Zone} (w : Waiting) (t : Bool) → InWaiting w → InZone z → InZone (afterWaiting w z t)
 waited-in Nothing t k h = h
-waited-in (Ground g) t k h =
-    chosen InForce t (λ e. record { set = h .set; ink = h .ink; ground = k; waiting = tt }) (λ e. h)
+waited-in (Ground g) t k h = chosen InZone t (λ e. record { ground = k; waiting = tt }) (λ e. h)
 
-pub write-in : {a : Attributes} (s d : ℕ) → InForce a → InForce (afterWriting a s d)
-write-in {a} s d h = waited-in (a .waiting) (takes s d) (h .waiting) h
+pub write-in : {a : Attributes} (x : Character) → InForce a → InForce (afterWriting a x)
+write-in {a} x h =
+    record { set = h .set; ink = h .ink; zone = waited-in (a .zone .waiting) (takes x) (h .zone .waiting) (h .zone) }
 
-pub cell-in : {a : Attributes} {s d : ℕ} → Character s d → InForce a → InCell (cellOf a s d)
-cell-in {a} {s} {d} k h =
-    let c = cell-has a s d in
+pub cell-in : {a : Attributes} {x : Character} → InCharacter x → InForce a → InCell (cellOf a x)
+cell-in {a} {x} k h =
+    let c = cell-has a x in
     record {
-      character =
-          record {
-            set = omega (arith, k .set, c .set);
-            low = omega (arith, k .low, c .code);
-            high = omega (arith, k .high, c .code);
-          };
+      character = subst InCharacter (sym (c .character)) k;
       ink = omega (arith, h .ink, c .ink);
-      ground = omega (arith, h .ground, c .ground);
+      ground = omega (arith, h .zone .ground, c .ground);
     }

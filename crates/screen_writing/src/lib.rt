@@ -1,12 +1,16 @@
-// A character written with the attributes in force (01, "Screen cells"): the ground that it takes, and its cell.
+// A character written with the attributes in force (01, "Screen cells"): the ground that it takes, and its cell. This is
+// the one place where a written cell is made.
 //
 // specs/Writing says both; proofs/Cells shows what the cell has, proofs/Stays that attributes in range stay so,
-// proofs/Takers what takes a ground, and proofs/Mosaics that writing makes nothing inverse.
+// proofs/Twice that the same character once more takes nothing more, and proofs/Mosaics that writing makes nothing
+// inverse.
 ghost use mathlib.Core.Path.{_≡_};
-ghost use Rattle.screen_writing.specs.Writing.{takes, afterWriting, written};
+ghost use Rattle.screen_writing.specs.Writing.{zoneAfter, written};
 use screen_attributes::Attributes;
 use screen_attributes::Waiting;
+use screen_attributes::Zone;
 use screen_cells::Cell;
+use screen_cells::Character;
 
 // One character written: the attributes in force with and after it, and its cell.
 pub struct Written {
@@ -14,53 +18,37 @@ pub struct Written {
     pub cell: Cell,
 }
 
-// A waiting ground is taken by a G0 space or any G1 character.
-fn takes_ground(set: u8, code: u8) -> bool
-    ensures { λ r. ⌜ r ≡ takes set code ⌝ }
+// What is serial with and after this character.
+fn pass(zone: Zone, character: Character) -> Zone
+    ensures { λ r. ⌜ r ≡ zoneAfter zone character ⌝ }
 {
-    if set == 1 {
-        return true;
-    }
-    if set == 0 {
-        return code == 32;
-    }
-    false
-}
-
-// Those in force with and after this character.
-fn after(attributes: Attributes, set: u8, code: u8) -> Attributes
-    ensures { λ r. ⌜ r ≡ afterWriting attributes set code ⌝ }
-{
-    let waiting = attributes.waiting;
+    let waiting = zone.waiting;
     match waiting {
-        Waiting::Nothing => attributes,
+        Waiting::Nothing => zone,
         Waiting::Ground(colour) => {
-            if takes_ground(set, code) {
-                Attributes {
-                    set: attributes.set,
-                    ink: attributes.ink,
+            if screen_cells::takes_ground(character) {
+                Zone {
                     ground: colour,
                     waiting: Waiting::Nothing,
-                    flash: attributes.flash,
-                    inverse: attributes.inverse,
                 }
             } else {
-                attributes
+                zone
             }
         }
     }
 }
 
-// A character of this set and code is written.
-pub fn write(attributes: Attributes, set: u8, code: u8) -> Written
-    ensures { λ r. ⌜ r ≡ written attributes set code ⌝ }
+// A character is written.
+pub fn write(attributes: Attributes, character: Character) -> Written
+    ensures { λ r. ⌜ r ≡ written attributes character ⌝ }
 {
-    let next = after(attributes, set, code);
+    let zone = pass(attributes.zone, character);
+    let mut next = attributes;
+    next.zone = zone;
     let cell = Cell {
-        set,
-        code,
+        character,
         ink: next.ink,
-        ground: next.ground,
+        ground: next.zone.ground,
         flash: next.flash,
         inverse: next.inverse,
     };

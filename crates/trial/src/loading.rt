@@ -11,12 +11,14 @@ use crate::words::part;
 use crate::words::place_among;
 use screen_attributes::Attributes;
 use screen_attributes::Waiting;
+use screen_attributes::Zone;
 use screen_cells::Cell;
+use screen_cells::Character;
 use screen_cursor::Place;
 use screen_page::Screen;
-use screen_pen::Kept;
 use screen_pen::Last;
 use screen_pen::Pen;
+use screen_pen::Spot;
 use screen_sequences::Sequence;
 
 // Whether a word names the thousand cells: seven digits each, of which the last two are 0 or 1.
@@ -38,8 +40,10 @@ fn are_cells(word: &[u8]) -> bool {
 // The cell that seven digits name.
 fn cell_of(seven: &[u8]) -> Cell {
     Cell {
-        set: digit(seven, 0),
-        code: digit(seven, 1) % 16 * 16 + digit(seven, 2) % 16,
+        character: Character {
+            set: digit(seven, 0),
+            code: digit(seven, 1) % 16 * 16 + digit(seven, 2) % 16,
+        },
         ink: digit(seven, 3),
         ground: digit(seven, 4),
         flash: digit(seven, 5) == 1,
@@ -85,8 +89,10 @@ fn attributes_of(numbers: &[u8], good: &mut bool) -> Attributes {
     Attributes {
         set: field(numbers, b',', 0, 255, good),
         ink: field(numbers, b',', 1, 255, good),
-        ground: field(numbers, b',', 2, 255, good),
-        waiting: waiting_of(part(numbers, b',', 3), good),
+        zone: Zone {
+            ground: field(numbers, b',', 2, 255, good),
+            waiting: waiting_of(part(numbers, b',', 3), good),
+        },
         flash: field(numbers, b',', 4, 1, good) == 1,
         inverse: number(after(numbers, b',', 5), 1, good) == 1,
     }
@@ -97,10 +103,10 @@ fn last_of(word: &[u8], good: &mut bool) -> Last {
     if is_dash(word) {
         return Last::Never;
     }
-    Last::Character {
+    Last::Was(Character {
         set: field(word, b':', 0, 255, good),
         code: byte(after(word, b':', 1), good),
-    }
+    })
 }
 
 // The name of a sequence, or `us:CODE`.
@@ -126,8 +132,8 @@ fn sequence_of(name: &[u8], good: &mut bool) -> Sequence {
 }
 
 // ROW,COLUMN and then as attributes are.
-fn kept_of(numbers: &[u8], good: &mut bool) -> Kept {
-    Kept {
+fn kept_of(numbers: &[u8], good: &mut bool) -> Spot {
+    Spot {
         place: place_of(numbers, good),
         attributes: attributes_of(after(numbers, b',', 2), good),
     }
@@ -137,8 +143,10 @@ fn kept_of(numbers: &[u8], good: &mut bool) -> Kept {
 fn pen_of(words: &[u8], good: &mut bool) -> Pen {
     let cursor = part(words, b' ', 0);
     Pen {
-        place: place_of(cursor, good),
-        attributes: attributes_of(part(words, b' ', 1), good),
+        here: Spot {
+            place: place_of(cursor, good),
+            attributes: attributes_of(part(words, b' ', 1), good),
+        },
         kept: kept_of(part(words, b' ', 3), good),
         last: last_of(part(words, b' ', 2), good),
         sequence: sequence_of(after(words, b' ', 4), good),

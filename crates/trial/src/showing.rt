@@ -17,9 +17,9 @@ pub(crate) const SEQUENCES: [u8; 29] = *b"- esc esc2 csi us rep ss2 sep";
 // The seven digits of a cell.
 pub(crate) fn spelled(cell: Cell) -> [u8; 7] {
     [
-        letter(cell.set),
-        letter(cell.code / 16),
-        letter(cell.code % 16),
+        letter(cell.character.set),
+        letter(cell.character.code / 16),
+        letter(cell.character.code % 16),
         letter(cell.ink),
         letter(cell.ground),
         letter(cell.flash as u8),
@@ -44,8 +44,8 @@ pub(crate) fn write_cells(cells: [Cell; 1000]) {
 fn write_attributes(mark: u8, a: Attributes) {
     write_number(mark, a.set);
     write_number(b',', a.ink);
-    write_number(b',', a.ground);
-    let waiting = a.waiting;
+    write_number(b',', a.zone.ground);
+    let waiting = a.zone.waiting;
     match waiting {
         Waiting::Nothing => {
             io::write_all(1, b",-");
@@ -64,9 +64,9 @@ fn write_last(last: Last) {
         Last::Never => {
             io::write_all(1, b"-");
         }
-        Last::Character { set, code } => {
-            io::print_decimal(1, set as u64);
-            write_bytes(b':', &[code]);
+        Last::Was(character) => {
+            io::print_decimal(1, character.set as u64);
+            write_bytes(b':', &[character.code]);
         }
     }
 }
@@ -91,15 +91,16 @@ fn write_sequence(sequence: Sequence) {
 
 // All of a state but its cells.
 pub(crate) fn write_pen(pen: Pen) {
+    let here = pen.here;
     let kept = pen.kept;
     let last = pen.last;
     let sequence = pen.sequence;
     io::write_all(1, b" cur");
-    write_number(b'=', pen.place.row);
-    write_number(b',', pen.place.column);
+    write_number(b'=', here.place.row);
+    write_number(b',', here.place.column);
     write_number(b',', pen.shown as u8);
     io::write_all(1, b" attr");
-    write_attributes(b'=', pen.attributes);
+    write_attributes(b'=', here.attributes);
     write_last(last);
     io::write_all(1, b" kept");
     write_number(b'=', kept.place.row);

@@ -1,6 +1,6 @@
 -- `screen_cells::is_character` meets its contract. Assumes nothing.
 use borrow.Author.Tests.{le-leb, lt-leb}
-use Rattle.screen_cells.specs.Within.{goodCharacter}
+use Rattle.screen_cells.specs.Characters.{goodCharacter}
 use Rattle.screen_cells.proofs.is_character.Statement.{statement}
 use Rattle.screen_cells.proofs.is_character.Tie as tie
 

@@ -1,5 +1,5 @@
 -- `screen_planning::plan` meets its contract. Assumes nothing.
-use borrow.Author.Tests.{le-leb, le-ltb, lt-ltb}
+use borrow.Author.Tests.{le-ltb, lt-ltb}
 use borrow.Author.Needs.{needs}
 use Rattle.screen_planning.proofs.plan.Statement.{statement}
 use Rattle.screen_planning.proofs.plan.Tie as tie
@@ -34,7 +34,6 @@ returns-2 c =
       c .before .before .before .if2 .taken,
       ← c .before .before .before .before .in-range .ensures,
       le-ltb _ _ (c .before .before .before .before .before .if1 .left),
-      le-leb _ _ (c .before .before .before .before .before .if1 .left),
     )
 
 returns-3 : tie.Need-returns-3

@@ -8,7 +8,7 @@ use lib.ListN.{length, getD, take, drop, set, replicate}
 use borrow.Author.Needs.{needs}
 use Rattle.laws.proofs.Lists.{put, length-mapped}
 use Rattle.screen_cells.specs.declared.Cell.{Cell}
-use Rattle.screen_cells.specs.Characters.{blankOf}
+use Rattle.screen_cells.specs.Cells.{blankOf}
 use Rattle.screen_sheet.specs.Clearing.{cleared}
 use Rattle.screen_sheet.proofs.Stays.{noCell}
 use Rattle.screen_sheet.proofs.clear.Statement.{statement}

@@ -12,7 +12,8 @@ use lib.Seq.{drop-cons}
 use borrow.Author.Needs.{needs}
 use Rattle.laws.proofs.Lists.{length-mapped}
 use Rattle.screen_cells.specs.declared.Cell.{Cell}
-use Rattle.screen_sheet.specs.Within.{goodCell, allGood}
+use Rattle.screen_cells.specs.Cells.{goodCell}
+use Rattle.screen_sheet.specs.Within.{allGood}
 use Rattle.screen_sheet.proofs.Stays.{noCell}
 use Rattle.screen_sheet.proofs.in_range.Statement.{statement}
 use Rattle.screen_sheet.proofs.in_range.Tie as tie
@@ -37,8 +38,8 @@ mul-cell c = search needs
 array-copy-out-cell : tie.Need-array-copy-out-cell Inv-loop μ-loop
 array-copy-out-cell c = search needs
 
-cell-in-range-requires : tie.Need-cell-in-range-requires Inv-loop μ-loop
-cell-in-range-requires c κs = search needs
+in-range-requires : tie.Need-in-range-requires Inv-loop μ-loop
+in-range-requires c κs = search needs
 
 add-i : tie.Need-add-i Inv-loop μ-loop
 add-i c = search needs
@@ -53,7 +54,7 @@ loop-again c =
     let n : length cs ≡ 1000 = search (length-mapped, l .before .good .0) in
     let h : l .loop .i < length cs = omega arith in (
       search needs,
-      sym (next cs (l .loop .i) true h (sym (c .before .cell-in-range .ensures) ∙ c .if1 .taken)) ∙ l .loop .inv .1,
+      sym (next cs (l .loop .i) true h (sym (c .before .in-range .ensures) ∙ c .if1 .taken)) ∙ l .loop .inv .1,
     )
 
 returns : tie.Need-returns Inv-loop μ-loop
@@ -62,7 +63,7 @@ returns c =
     let cs = l .before .args .t1 in
     let n : length cs ≡ 1000 = search (length-mapped, l .before .good .0) in
     let h : l .loop .i < length cs = omega arith in
-    sym (next cs (l .loop .i) false h (sym (c .before .cell-in-range .ensures) ∙ c .if1 .left)) ∙ l .loop .inv .1
+    sym (next cs (l .loop .i) false h (sym (c .before .in-range .ensures) ∙ c .if1 .left)) ∙ l .loop .inv .1
 
 returns-2 : tie.Need-returns-2 Inv-loop μ-loop
 unfolding allGood
@@ -82,7 +83,7 @@ in-range-spec =
     loop-holds
     mul-cell
     array-copy-out-cell
-    cell-in-range-requires
+    in-range-requires
     add-i
     loop-less
     loop-again

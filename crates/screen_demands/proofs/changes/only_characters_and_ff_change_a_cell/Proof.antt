@@ -8,7 +8,7 @@ use Rattle.screen_demands.proofs.changes.only_characters_and_ff_change_
 returns : tie.Need-returns
 returns c = (
   λ s h b l. step-taken s b (unbroken h) l,
-  (λ s h b x k. others-stay s b x (h .pen .place) k, λ s h b x k. ff-cell s b x h k),
+  (λ s h b x k. others-stay s b x (h .pen .here .place) k, λ s h b x k. ff-cell s b x h k),
 )
 
 pub only-characters-and-ff-change-a-cell-spec : {M : Type 1} → statement M

@@ -9,8 +9,8 @@ returns c = simp (eq-eqb _ _ (c .if2 .taken), eq-eqb _ _ (c .before .before .if1
 returns-2 : tie.Need-returns-2
 returns-2 c =
     simp (
-      ne-eqb _ _ (c .before .before .if2 .left),
-      eq-eqb _ _ (c .before .before .before .before .if1 .taken),
+      ne-eqb _ _ (c .before .if2 .left),
+      eq-eqb _ _ (c .before .before .before .if1 .taken),
     )
 
 returns-3 : tie.Need-returns-3

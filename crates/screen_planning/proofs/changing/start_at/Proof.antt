@@ -6,19 +6,11 @@ use Rattle.screen_planning.proofs.changing.start_at.Tie as tie
 start-requires : tie.Need-start-requires
 start-requires c κs = search needs
 
-with-place-requires : tie.Need-with-place-requires
-with-place-requires c κs = search needs
-
-with-attributes-requires : tie.Need-with-attributes-requires
-with-attributes-requires c κs = search needs
+with-here-requires : tie.Need-with-here-requires
+with-here-requires c κs = search needs
 
 returns : tie.Need-returns
-returns c =
-    simp (
-      c .with-attributes .ensures,
-      c .before .with-place .ensures,
-      c .before .before .start .ensures,
-    )
+returns c = simp (c .with-here .ensures, c .before .start .ensures)
 
 pub start-at-spec : {M : Type 1} → statement M
-start-at-spec = tie.close (tie.spec start-requires with-place-requires with-attributes-requires returns)
+start-at-spec = tie.close (tie.spec start-requires with-here-requires returns)
