@@ -65,10 +65,11 @@ fn put_rows(cells: [Cell; 1000]) {
 }
 
 fn put_attributes(a: Attributes) {
-    let waiting = a.zone.waiting;
+    let zone = a.zone;
+    let waiting = zone.waiting;
     put_number(b", set ", a.set as u64);
     put_number(b", ink ", a.ink as u64);
-    put_number(b", ground ", a.zone.ground as u64);
+    put_number(b", ground ", zone.ground as u64);
     match waiting {
         Waiting::Nothing => put(b", waiting -"),
         Waiting::Ground(colour) => put_number(b", waiting ", colour as u64),

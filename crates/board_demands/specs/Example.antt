@@ -19,12 +19,12 @@ arrived =
 abbrev pub wanted : List ℕ
 wanted = 149 ∷ 192 ∷ []
 
+-- this set and code, ink 7, ground 0, no flash, not inverse
+abbrev pub white : ℕ → ℕ → Cell
+white s d = record { character = record { set = s; code = d }; ink = 7; ground = 0; flash = false; inverse = false }
+
 -- row 0, eleven A at the beginning of row 1, and all the rest blank
-abbrev pub blanks : ℕ → List Cell
-blanks n = replicate n (record { set = 1; code = 32; ink = 7; ground = 0; flash = false; inverse = false })
 
 abbrev pub shown : List Cell
 shown =
-    blanks 40
-    ++ (replicate 11 (record { set = 0; code = 65; ink = 7; ground = 0; flash = false; inverse = false })
-    ++ blanks 949)
+    replicate 40 (white 1 32) ++ (replicate 11 (white 0 65) ++ replicate 949 (white 1 32))

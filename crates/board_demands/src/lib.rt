@@ -117,7 +117,8 @@ pub fn a_fresh_board_is_off_local_and_blank()
         × ((e : Ear) → unfinished (freshBoard .links) e ≡ Free)
         × (reaches (freshBoard .links .table) Modem Screen ≡ true) ⌝ }
     ensures blank { λ _. ⌜ (freshBoard .screen .cells
-        ≡ replicate 1000 (record { character = record { set = 1; code = 32 }; ink = 7; ground = 0; flash = false; inverse = false }))
+        ≡ replicate 1000
+        (record { character = record { set = 1; code = 32 }; ink = 7; ground = 0; flash = false; inverse = false }))
         × (freshBoard .screen .pen .here .place .row ≡ 1) × (freshBoard .screen .pen .here .place .column ≡ 1)
         × (freshBoard .screen .pen .shown ≡ false) ⌝ }
 {}

@@ -56,11 +56,12 @@ fn sign(code: u8) -> u32 {
 
 // The point of a character; a space and a full block are the same in every set.
 fn point(character: Character) -> u32 {
+    let set = character.set;
     let code = character.code;
     match code {
         0x20 => 0x20,
         0x7f => 0x2588,
-        _ => match character.set {
+        _ => match set {
             1 => mosaic(code),
             2 => sign(code),
             _ => letter(code),

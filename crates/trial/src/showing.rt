@@ -44,8 +44,9 @@ pub(crate) fn write_cells(cells: [Cell; 1000]) {
 fn write_attributes(mark: u8, a: Attributes) {
     write_number(mark, a.set);
     write_number(b',', a.ink);
-    write_number(b',', a.zone.ground);
-    let waiting = a.zone.waiting;
+    let zone = a.zone;
+    let waiting = zone.waiting;
+    write_number(b',', zone.ground);
     match waiting {
         Waiting::Nothing => {
             io::write_all(1, b",-");
