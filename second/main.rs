@@ -2,41 +2,19 @@
 //! With file names it runs those in turn, with none the standard input.
 
 mod block;
-mod block_commands;
 mod board;
-mod board_commands;
-mod judge;
-mod limits;
+mod line;
 mod links;
-mod links_calls;
-mod links_codes;
-mod links_commands;
-mod links_ranges;
-mod links_reading;
-mod links_state;
-mod links_writing;
-mod maker;
-mod polynomial;
-mod reading;
-mod receiver;
-mod receiver_commands;
-mod receiver_state;
 mod screen;
-mod screen_calls;
-mod screen_codes;
-mod screen_commands;
-mod screen_ranges;
-mod screen_reading;
-mod screen_state;
-mod screen_writing;
 mod trial;
-mod writing;
 
 use std::env;
 use std::fs::File;
 use std::io::{self, BufReader, BufWriter, Write};
 use std::path::{Path, PathBuf};
 use std::process::ExitCode;
+
+use trial::running;
 
 fn main() -> ExitCode {
     let mut answers = BufWriter::new(io::stdout().lock());
@@ -58,7 +36,7 @@ fn main() -> ExitCode {
 fn run_all(answers: &mut impl Write) -> Vec<String> {
     let names: Vec<PathBuf> = env::args_os().skip(1).map(PathBuf::from).collect();
     if names.is_empty() {
-        let ran = trial::run(io::stdin().lock(), answers);
+        let ran = running::run(io::stdin().lock(), answers);
         return Vec::from_iter(ran.err().map(|error| format!("standard input: {error}")));
     }
     names
@@ -71,5 +49,5 @@ fn run_all(answers: &mut impl Write) -> Vec<String> {
 }
 
 fn run_file(name: &Path, answers: &mut impl Write) -> io::Result<()> {
-    trial::run(BufReader::new(File::open(name)?), answers)
+    running::run(BufReader::new(File::open(name)?), answers)
 }

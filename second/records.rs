@@ -1,57 +1,64 @@
 //! Writes the stored records and values for the keeper's program into a
 //! directory, the same ones each time.
 
-mod bad_line;
-mod block;
-mod damage;
-mod judge;
-mod page_values;
-mod polynomial;
-mod record_lines;
-mod record_pages;
-mod stored_files;
-mod xorshift;
+mod block {
+    pub mod judge;
+    pub mod layout;
+    pub mod polynomial;
+}
+mod stored {
+    pub mod bad_line;
+    pub mod damage;
+    pub mod files;
+    pub mod page_values;
+    pub mod records;
+    pub mod xorshift;
+}
 
 // Of these a part is enough here: a receiver that is on all the time, and the
 // names of codes, modules, rows and columns.
+mod line {
+    #[allow(dead_code)]
+    pub mod receiver;
+}
 #[allow(dead_code)]
-mod links_codes;
+mod links {
+    pub mod codes;
+    pub mod state;
+}
 #[allow(dead_code)]
-mod links_state;
-#[allow(dead_code)]
-mod receiver;
-#[allow(dead_code)]
-mod screen_codes;
-#[allow(dead_code)]
-mod screen_state;
+mod screen {
+    pub mod codes;
+    pub mod state;
+}
 
 use std::process::ExitCode;
 
-use record_lines::clean;
-use record_pages::many;
-use stored_files::Stored;
+use stored::files::{self, Stored};
+use stored::records::lines::{self, clean};
+use stored::records::pages::{self, many};
 
 /// First the records, then the values to be sent.
 const STORED: [Stored<Vec<u8>>; 25] = [
-    ("frost", || clean(&record_pages::frost())),
-    ("sets", || clean(&record_pages::sets())),
-    ("colours", || clean(&record_pages::colours())),
-    ("looks", || clean(&record_pages::looks())),
-    ("repeats", || clean(&record_pages::repeats())),
-    ("row-0", || clean(&record_pages::row_0())),
-    ("commands", || clean(&record_pages::commands())),
-    ("hits", record_lines::hits),
-    ("repeat", record_lines::repeat),
-    ("repeat-of-a-repeat", record_lines::repeat_of_a_repeat),
-    ("wrong-number", record_lines::wrong_number),
-    ("out-of-step", record_lines::out_of_step),
-    ("ends-inside", record_lines::ends_inside),
-    ("ends-waiting", record_lines::ends_waiting),
+    ("frost", || clean(&pages::frost())),
+    ("sets", || clean(&pages::sets())),
+    ("colours", || clean(&pages::colours())),
+    ("looks", || clean(&pages::looks())),
+    ("repeats", || clean(&pages::repeats())),
+    ("row-0", || clean(&pages::row_0())),
+    ("commands", || clean(&pages::commands())),
+    ("hits", lines::hits),
+    ("repeat", lines::repeat),
+    ("repeat-of-a-repeat", lines::repeat_of_a_repeat),
+    ("wrong-number", lines::wrong_number),
+    ("out-of-step", lines::out_of_step),
+    ("ends-inside", lines::ends_inside),
+    ("ends-waiting", lines::ends_waiting),
     ("one-byte", || vec![0x41]),
     ("empty", Vec::new),
-    ("long", record_lines::long),
-    ("noise", record_lines::noise),
-    ("values-frost", record_pages::frost),
+    ("long", lines::long),
+    ("noise", lines::noise),
+    ("values-frost", pages::frost),
     ("values-1", || many(1)),
     ("values-15", || many(15)),
     ("values-16", || many(16)),
@@ -61,7 +68,7 @@ const STORED: [Stored<Vec<u8>>; 25] = [
 ];
 
 fn main() -> ExitCode {
-    stored_files::write_all("records", &STORED)
+    files::write_all("records", &STORED)
 }
 
 /// Two of them, and neither in the first block.

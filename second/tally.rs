@@ -7,17 +7,20 @@
 //! pattern is the XOR of those of its bits. Up to three upset bits are judged by
 //! the definition as well, all 136 neighbours tried; both ways have to agree.
 
-#[allow(dead_code)] // nothing is formed here
-mod block;
-mod judge;
-mod polynomial;
+mod block {
+    pub mod judge;
+    #[allow(dead_code)] // nothing is formed here
+    pub mod layout;
+    pub mod polynomial;
+}
 
 use std::collections::HashMap;
 use std::env;
 use std::process::ExitCode;
 
-use block::{Block, BITS, CODE_BITS, LENGTH};
-use judge::Judgement;
+use block::judge::{self, Judgement};
+use block::layout::{self, Block, BITS, CODE_BITS, LENGTH};
+use block::polynomial;
 
 const SENT: Block = [0; LENGTH];
 
@@ -78,7 +81,7 @@ fn main() -> ExitCode {
 fn try_each(block: Block, from: usize, left: usize, counts: &mut Counts) {
     if left > 0 {
         for bit in from..BITS {
-            try_each(block::hit(block, bit), bit + 1, left - 1, counts);
+            try_each(layout::hit(block, bit), bit + 1, left - 1, counts);
         }
         return;
     }
@@ -99,7 +102,7 @@ struct Syndromes {
 
 impl Syndromes {
     fn new() -> Syndromes {
-        let alone = |bit| syndrome(&block::hit(SENT, bit));
+        let alone = |bit| syndrome(&layout::hit(SENT, bit));
         let of_bit: Vec<u32> = (0..BITS).map(alone).collect();
         let bit_of: HashMap<u32, usize> = (0..BITS).map(|bit| (of_bit[bit], bit)).collect();
         assert_eq!(bit_of.len(), BITS, "two bits have the same syndrome");
@@ -136,8 +139,8 @@ impl Syndromes {
 /// remainder and eight of byte 17.
 fn syndrome(block: &Block) -> u32 {
     let [sixteen @ .., validation] = block;
-    let odd = sixteen.iter().map(|&byte| !block::has_even_parity(byte));
-    let remainder = polynomial::remainder(block::code_polynomial(block));
+    let odd = sixteen.iter().map(|&byte| !layout::has_even_parity(byte));
+    let remainder = polynomial::remainder(layout::code_polynomial(block));
     let tests = odd.chain(remainder);
     tests.fold(u32::from(*validation), |sum, test| {
         2 * sum + u32::from(test)
