@@ -17,7 +17,7 @@ pub trait Family {
     fn answer(&mut self, words: &[&str]) -> Option<String>;
 }
 
-/// Every family in its start state. A new family is a file and a line here.
+/// Every family in its start state. A new family is a folder and a line here.
 fn start_state() -> Vec<Box<dyn Family>> {
     vec![
         Box::new(BlockCommands),
