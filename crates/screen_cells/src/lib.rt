@@ -2,8 +2,8 @@
 //
 // Sets, codes and colours are numbers, so that any can be handed in; the tests say which are in range. What a character
 // is, is said here alone: specs/Characters has the range of one and what takes a waiting ground, specs/Cells a blank
-// cell, which cells are in range, and when two are the same. proofs/Tested ties the tests to the ranges, proofs/Equal says
-// that the same is equal, proofs/Takers what takes a ground, and proofs/Written writes all of it out.
+// cell, which cells are in range, and when two are the same. proofs/Tested ties the tests to the ranges, proofs/Equal
+// says that the same is equal, proofs/Takers what takes a ground, and proofs/Written writes all of it out.
 ghost use mathlib.Core.Path.{_≡_};
 ghost use Rattle.screen_cells.specs.Characters.{goodCharacter, takes, sameCharacter};
 ghost use Rattle.screen_cells.specs.Cells.{blankOf, goodCell, sameLooks, sameCell, isBlank};

@@ -2,8 +2,8 @@
 // that they form, apart from whatever obeys them.
 //
 // `hear` takes an unfinished sequence and one value, and says what is unfinished then and what is ordered. It knows no
-// cursor, no attribute and no cell. specs/Sequences says the same, rule by rule, and specs/Opening which sequences values
-// leave open; proofs/Worked has codes and sequences worked by hand.
+// cursor, no attribute and no cell. specs/Sequences says the same, rule by rule, and specs/Opening which sequences
+// values leave open; proofs/Worked has codes and sequences worked by hand.
 ghost use mathlib.Core.Path.{_≡_};
 ghost use Rattle.screen_sequences.specs.Sequences.{order, begins, escaped};
 ghost use Rattle.screen_sequences.specs.Sequences.{dropped, again, single, followed, heard};
