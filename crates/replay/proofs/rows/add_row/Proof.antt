@@ -28,8 +28,8 @@ cell-requires c κs = search needs
 found-requires : tie.Need-found-requires Inv-loop μ-loop
 found-requires c κs = search needs
 
-are-alike-requires : tie.Need-are-alike-requires Inv-loop μ-loop
-are-alike-requires c κs = search needs
+look-alike-requires : tie.Need-look-alike-requires Inv-loop μ-loop
+look-alike-requires c κs = search needs
 
 add-cell-requires : tie.Need-add-cell-requires Inv-loop μ-loop
 add-cell-requires c κs = search needs
@@ -60,7 +60,7 @@ add-row-spec =
     add-cell
     cell-requires
     found-requires
-    are-alike-requires
+    look-alike-requires
     add-cell-requires
     add-column
     loop-less
