@@ -1,4 +1,4 @@
 pub mod Screens
 pub mod Calls
 pub mod Claims
-pub mod Plain
+pub mod Others

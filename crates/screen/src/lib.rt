@@ -7,7 +7,6 @@ ghost use mathlib.Core.Path.{_≡_};
 ghost use Rattle.screen.specs.Calls.{stepped, ran};
 
 mod drawing;
-mod plain;
 
 use drawing::advance;
 pub use screen_answers::Answer;

@@ -1,4 +1,4 @@
--- `screen::plain::is_plain` meets its contract. Assumes nothing.
+-- `screen::drawing::is_other` meets its contract. Assumes nothing.
 use mathlib.Core.Path.{_≡_, refl}
 use mathlib.Core.Bool.{false}
 use mathlib.Core.List.{List, [], _∷_}
@@ -11,9 +11,9 @@ use Rattle.screen_sequences.specs.declared.Sequence.the-variants.{Free, Escape,
 use Rattle.screen_sequences.specs.declared.Sequence.the-variants.{Single, Address, Row}
 use Rattle.screen_sequences.specs.Sequences.{isFree}
 use Rattle.screen_sequences.proofs.Sequence.{the-type}
-use Rattle.screen.specs.Plain.{isPlain}
-use Rattle.screen.proofs.plain.is_plain.Statement.{statement}
-use Rattle.screen.proofs.plain.is_plain.Tie as tie
+use Rattle.screen.specs.Others.{isOther}
+use Rattle.screen.proofs.drawing.is_other.Statement.{statement}
+use Rattle.screen.proofs.drawing.is_other.Tie as tie
 
 enum-told : tie.Need-enum-told
 enum-told c = search needs
@@ -34,12 +34,12 @@ unfinished Address h = refl
 unfinished (Row r) h = refl
 
 returns : tie.Need-returns
-unfolding isPlain
+unfolding isOther
 returns c = simp (unfinished (c .before .args .pen .sequence) (c .match .keys2))
 
 returns-2 : tie.Need-returns-2
-unfolding isPlain
+unfolding isOther
 returns-2 c = simp (c .enum-told .given .1)
 
-pub is-plain-spec : {M : Type 1} → statement M
-is-plain-spec = tie.close (tie.spec enum-told returns returns-2)
+pub is-other-spec : {M : Type 1} → statement M
+is-other-spec = tie.close (tie.spec enum-told returns returns-2)
