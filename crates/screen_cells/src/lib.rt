@@ -122,5 +122,6 @@ pub fn same(a: Cell, b: Cell) -> bool
 pub fn is_blank(cell: Cell) -> bool
     ensures { λ r. ⌜ r ≡ isBlank cell ⌝ }
 {
-    same(cell, blank())
+    let blank = blank();
+    same(cell, blank)
 }

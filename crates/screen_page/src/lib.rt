@@ -76,7 +76,8 @@ impl Screen {
         }
         let place = Place { row, column };
         if place.on_screen() {
-            return Read::There(self.seen(place));
+            let cell = self.seen(place);
+            return Read::There(cell);
         }
         Read::Off
     }

@@ -60,8 +60,11 @@ pub(crate) fn with_shown(mut pen: Pen, shown: bool) -> Pen
 pub(crate) fn start_at(pen: Pen, place: Place) -> Pen
     ensures { λ r. ⌜ r ≡ startAt pen place ⌝ }
 {
-    let attributes = screen_attributes::start();
-    with_here(pen, Spot { place, attributes })
+    let mut here = pen.here;
+    let start = screen_attributes::start();
+    here.place = place;
+    here.attributes = start;
+    with_here(pen, here)
 }
 
 // LF: in row 0 back to what was kept.

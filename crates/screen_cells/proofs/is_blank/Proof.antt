@@ -1,7 +1,5 @@
 -- `screen_cells::is_blank` meets its contract. Assumes nothing.
-use mathlib.Core.Path.{ap, _∙_}
 use borrow.Author.Needs.{needs}
-use Rattle.screen_cells.specs.Cells.{sameCell}
 use Rattle.screen_cells.proofs.is_blank.Statement.{statement}
 use Rattle.screen_cells.proofs.is_blank.Tie as tie
 
@@ -12,7 +10,7 @@ same-requires : tie.Need-same-requires
 same-requires c κs = search needs
 
 returns : tie.Need-returns
-returns c = c .same .ensures ∙ ap (sameCell (c .before .before .args .cell)) (c .before .blank .ensures)
+returns c = simp (c .same .ensures, c .before .blank .ensures)
 
 pub is-blank-spec : {M : Type 1} → statement M
 is-blank-spec = tie.close (tie.spec blank-requires same-requires returns)
