@@ -3,7 +3,7 @@
 use mathlib.Core.Bool.{cond}
 use mathlib.Core.List.{List, []}
 use Prim.Native.Nat.{ℕ}
-use lib.ListN.{take, replicate}
+use lib.ListN.{replicate}
 use Rattle.line_receiver.specs.declared.Receiver.{Receiver}
 use Rattle.line_receiver.specs.declared.Stepped.{Stepped}
 use Rattle.line_receiver.specs.Calls.{stepped, switchedOn as receiverOn, switchedOff as receiverOff}
@@ -15,8 +15,9 @@ use Rattle.links.specs.declared.Answer.the-variants.{Taken, Broken}
 use Rattle.links.specs.declared.Outcome.{Outcome as LinksOutcome}
 use Rattle.links.specs.Calls.{fromKeyboard, fromSocket, withLocal as linksLocal, withConnected as linksConnected}
 use Rattle.board_feeding.specs.declared.Shares.{Shares}
-use Rattle.board_feeding.specs.Feeding.{outlet, contents, sharesOf, fed}
+use Rattle.board_feeding.specs.Feeding.{outlet, contents, sharesOf}
 use Rattle.screen.specs.Calls.{ran}
+use Rattle.board_front.specs.LineBytes.{sentOn}
 use Rattle.board.specs.declared.Board.{Board}
 use Rattle.board.specs.declared.Outcome.{Outcome}
 use Rattle.board.specs.Boards.{inRange}
@@ -49,12 +50,12 @@ joined b r l w a request asked =
       asked = asked;
     }
 
--- ---- the receiver's calls: what it passes on goes through the links as the modem's, its request out
+-- ---- the receiver's calls: what it hands out is sent on
 
 abbrev pub followed : Board → Stepped → Outcome
 followed b s =
-    let f = fed (b .links) (take (s .passed) (s .values)) in
-    joined b (s .next) (f .links) (f .shares) Taken (s .request) (s .asked)
+    let h = sentOn (b .links) s in
+    joined b (h .front .receiver) (h .front .links) (h .shares) Taken (h .request) (h .asked)
 
 unfoldable pub following : Board → Stepped → Outcome
 following b s = cond (inRange b) (followed b s) (refused b Broken)

@@ -9,8 +9,7 @@
 // specs/Boards says what a board is, specs/Calls what each call does to it, specs/Runs what a whole run is; proofs/
 // shows that each part goes its own way in every run.
 ghost use mathlib.Core.Path.{_≡_};
-ghost use Prim.Native.Nat.{_≤_};
-ghost use Rattle.board_feeding.specs.Feeding.{contents, Enough};
+ghost use lib.ListN.{take};
 ghost use Rattle.screen.specs.Calls.{ran};
 ghost use Rattle.board.specs.Boards.{freshBoard, inRange};
 ghost use Rattle.board.specs.Calls.{refused, joined, following, passing};
@@ -62,13 +61,12 @@ fn refuse(board: Board, answer: Answer) -> Outcome
     }
 }
 
-// What the links send to the screen, written there.
-fn show(screen: Screen, sent: Outlet) -> Screen
-    requires { ⌜ sent .count ≤ 75 ⌝ }
-    ensures { λ r. ⌜ r ≡ ran «screen» (contents sent) .screen ⌝ }
+// The first `count` codes that the links send to a screen, written there. It gives no number: the links send no value
+// above 127, and the board's calls test their screen before they come here. A broken one comes back as it was.
+pub fn show(screen: Screen, sent: &[u8], count: usize) -> Screen
+    ensures { λ r. ⌜ r ≡ ran «screen» (take count (now (sent .entry))) .screen ⌝ }
 {
-    let codes = sent.codes;
-    let shown = screen::run(screen, &codes[..sent.count]);
+    let shown = screen::run(screen, lent::first(sent, count));
     shown.screen
 }
 
@@ -111,10 +109,11 @@ impl Board {
         request: [u8; 2],
         asked: usize,
     ) -> Outcome
-        requires { ⌜ Enough shares ⌝ }
         ensures { λ r. ⌜ r ≡ joined self receiver links shares answer request asked ⌝ }
     {
-        let screen = show(self.screen, shares.screen);
+        let sent = shares.screen;
+        let codes = sent.codes;
+        let screen = show(self.screen, &codes, sent.count);
         let keyboard = shares.keyboard;
         let modem = shares.modem;
         let socket = shares.socket;
@@ -139,13 +138,13 @@ impl Board {
         ensures { λ r. ⌜ r ≡ following self heard ⌝ }
     {
         if self.in_range() {
-            let values = heard.values;
-            let fed = board_feeding::feed(self.links, values, heard.passed);
-            let receiver = heard.next;
-            let links = fed.links;
-            let shares = fed.shares;
-            let request = heard.request;
-            return self.join(receiver, links, shares, Answer::Taken, request, heard.asked);
+            let sent = board_front::send_on(self.links, heard);
+            let front = sent.front;
+            let receiver = front.receiver;
+            let links = front.links;
+            let shares = sent.shares;
+            let request = sent.request;
+            return self.join(receiver, links, shares, Answer::Taken, request, sent.asked);
         }
         refuse(self, Answer::Broken)
     }

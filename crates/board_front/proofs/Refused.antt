@@ -3,7 +3,6 @@ use mathlib.Core.Path.{_≡_, refl, ap}
 use mathlib.Core.Bool.{false}
 use Prim.Native.Nat.{ℕ}
 use lib.ListN.{take}
-use Rattle.line_receiver.specs.declared.Stepped.{Stepped}
 use Rattle.line_receiver.specs.States.{inRange as receiverInRange}
 use Rattle.line_receiver.specs.Calls.{refused, stepped}
 use Rattle.links.specs.States.{inRange as linksInRange}
@@ -11,22 +10,12 @@ use Rattle.board_feeding.specs.declared.Fed.{Fed}
 use Rattle.board_feeding.specs.Feeding.{got, nobody, fed}
 use Rattle.board_feeding.proofs.Refused.{broken-fed}
 use Rattle.board_front.specs.declared.Front.{Front}
-use Rattle.board_front.specs.declared.Heard.{Heard}
-use Rattle.board_front.specs.LineBytes.{heardBy, unheard}
+use Rattle.board_front.specs.LineBytes.{sentOn, heardBy, unheard}
 
 -- the receiver refuses the byte, and nothing is heard
 pub broken-receiver : (f : Front) (x : ℕ) → receiverInRange (f .receiver) ≡ false → heardBy f x ≡ unheard f
 unfolding heardBy fed got
-broken-receiver f x i =
-    ap
-    (λ (s : Stepped). let g = fed (f .links) (take (s .passed) (s .values)) in
-    record {
-      front = record { receiver = s .next; links = g .links };
-      shares = g .shares;
-      request = s .request;
-      asked = s .asked;
-    })
-    (gone i)
+broken-receiver f x i = ap (sentOn (f .links)) (gone i)
   where
     gone : receiverInRange (f .receiver) ≡ false → stepped (f .receiver) x ≡ refused (f .receiver)
     gone e = simp e

@@ -4,24 +4,29 @@ use Prim.Native.Nat.{ℕ}
 use lib.ListN.{take, replicate}
 use Rattle.links_wiring.specs.declared.Module.{Module}
 use Rattle.line_receiver.specs.declared.Receiver.{Receiver}
+use Rattle.line_receiver.specs.declared.Stepped.{Stepped}
 use Rattle.line_receiver.specs.Calls.{stepped}
 use Rattle.line_receiver.specs.Runs.{Event, byte, run as receiverRun, sentBy, sent, allAsked}
+use Rattle.links.specs.declared.Links.{Links}
 use Rattle.links.specs.Runs.{Call, run as linksRun}
 use Rattle.board_feeding.specs.Feeding.{fromLine, got, nobody, fed}
 use Rattle.board_front.specs.declared.Front.{Front}
 use Rattle.board_front.specs.declared.Heard.{Heard}
 
--- one byte
-unfoldable pub heardBy : Front → ℕ → Heard
-heardBy f x =
-    let s = stepped (f .receiver) x in
-    let g = fed (f .links) (take (s .passed) (s .values)) in
+-- what the receiver hands out: its values go through the links as the modem's, and its request out
+abbrev pub sentOn : Links → Stepped → Heard
+sentOn l s =
+    let g = fed l (take (s .passed) (s .values)) in
     record {
       front = record { receiver = s .next; links = g .links };
       shares = g .shares;
       request = s .request;
       asked = s .asked;
     }
+
+-- one byte
+unfoldable pub heardBy : Front → ℕ → Heard
+heardBy f x = sentOn (f .links) (stepped (f .receiver) x)
 
 -- nothing is heard: the receiver and the links as they were, and nothing for anybody
 abbrev pub unheard : Front → Heard

@@ -7,7 +7,7 @@
 ghost use mathlib.Core.Path.{_≡_};
 ghost use Prim.Native.Nat.{_≤_};
 ghost use Rattle.board_feeding.specs.Feeding.{Enough};
-ghost use Rattle.board_front.specs.LineBytes.{heardBy};
+ghost use Rattle.board_front.specs.LineBytes.{sentOn, heardBy};
 
 mod ample;
 mod fitting;
@@ -15,6 +15,7 @@ mod fitting;
 use board_feeding::Shares;
 pub use fitting::fits;
 use line_receiver::Receiver;
+use line_receiver::Stepped;
 use links::Links;
 
 pub struct Front {
@@ -38,17 +39,13 @@ pub struct Room {
     pub requests: usize,
 }
 
-// One byte from the line. It gives no number: `lines` of the crate `board_pieces` does, and tests its board before it
-// comes here. A broken receiver hears nothing: it and the links come back as they were, with nothing for anybody.
-// Broken links take no value, so that nobody gets anything, while the receiver goes on. It passes on no value above
-// 127.
-pub fn hear(front: Front, byte: u8) -> Heard
-    ensures { λ r. ⌜ (r ≡ heardBy «front» byte) × Enough (r .shares) × (r .asked ≤ 2) ⌝ }
+// What the receiver hands out goes its way: its values through the links as the modem's, its request out. Broken links
+// take no value, so that nobody gets anything.
+pub fn send_on(links: Links, stepped: Stepped) -> Heard
+    ensures { λ r. ⌜ (r ≡ sentOn links stepped) × Enough (r .shares) ⌝ }
 {
-    let receiver = front.receiver;
-    let stepped = receiver.step(byte);
     let values = stepped.values;
-    let fed = board_feeding::feed(front.links, values, stepped.passed);
+    let fed = board_feeding::feed(links, values, stepped.passed);
     let shares = fed.shares;
     let request = stepped.request;
     let receiver = stepped.next;
@@ -60,4 +57,15 @@ pub fn hear(front: Front, byte: u8) -> Heard
         request,
         asked: stepped.asked,
     }
+}
+
+// One byte from the line. It gives no number: `lines` of the crate `board_pieces` does, and tests its board before it
+// comes here. A broken receiver hears nothing: it and the links come back as they were, with nothing for anybody.
+// Broken links take no value, so that nobody gets anything, while the receiver goes on. It passes on no value above
+// 127.
+pub fn hear(front: Front, byte: u8) -> Heard
+    ensures { λ r. ⌜ (r ≡ heardBy «front» byte) × Enough (r .shares) × (r .asked ≤ 2) ⌝ }
+{
+    let receiver = front.receiver;
+    send_on(front.links, receiver.step(byte))
 }

@@ -8,19 +8,18 @@ use Rattle.board_front.proofs.hear.Tie as tie
 step-requires : tie.Need-step-requires
 step-requires c κs = search needs
 
-feed-requires : tie.Need-feed-requires
-feed-requires c κs = search needs
+send-on-requires : tie.Need-send-on-requires
+send-on-requires c κs = search needs
 
 returns : tie.Need-returns
 unfolding heardBy
 returns c =
-    let f = c .before .before .before .before in
-    let s = f .before .before .step in
-    let a = f .before .before .before .before .args in (
-      simp (f .feed .ensures .0, s .ensures),
-      f .feed .ensures .1,
-      simp (s .ensures) (asked-counted (a .front .receiver) (a .byte) .0),
+    let s = c .before .step in
+    let a = c .before .before .before .args in (
+      simp (c .send-on .ensures .0, s .ensures),
+      c .send-on .ensures .1,
+      simp (c .send-on .ensures .0, s .ensures) (asked-counted (a .front .receiver) (a .byte) .0),
     )
 
 pub hear-spec : {M : Type 1} → statement M
-hear-spec = tie.close (tie.spec step-requires feed-requires returns)
+hear-spec = tie.close (tie.spec step-requires send-on-requires returns)

@@ -11,7 +11,7 @@ share-out-requires : tie.Need-share-out-requires
 share-out-requires c κs = search needs
 
 join-requires : tie.Need-join-requires
-join-requires c κs = c .share-out .ensures .1
+join-requires c κs = search needs
 
 returns : tie.Need-returns
 unfolding passing
