@@ -1,7 +1,7 @@
 -- One call at a time: what the receiver hears, where a key and a value from the socket go, and the host's choice of a
 -- table. Assumes nothing.
 use mathlib.Core.Path.{_≡_, refl, sym, ap, _∙_}
-use mathlib.Core.Bool.{cond}
+use mathlib.Core.Bool.{true, cond}
 use mathlib.Core.List.{List, [], _∷_, _++_, append-nil}
 use Prim.Native.Nat.{ℕ, _<_}
 use Rattle.links_wiring.specs.declared.Module.{Module}
@@ -13,16 +13,27 @@ use Rattle.line_receiver.specs.Runs.{Event as Heard, obey as receiverObey, sent
 use Rattle.links_hearing.specs.declared.ears.Ear.the-variants.{Socket as socketEar}
 use Rattle.links.specs.declared.Links.{Links}
 use Rattle.links.specs.declared.Outcome.{Outcome as LinksOutcome}
+use Rattle.links.specs.declared.Answer.the-variants.{Taken}
 use Rattle.links.specs.States.{unfinished}
 use Rattle.links.specs.Runs.{Call, key as keyCall, value, given, PassedOn}
 use Rattle.links.proofs.Flow.{plain-goes, key-goes}
 use Rattle.links.proofs.Choosing.{begins-local, begins-connected, local-chosen, connected-chosen}
 use Rattle.board_feeding.specs.Feeding.{got}
+use Rattle.board_front.specs.LineBytes.{heardBy}
 use Rattle.screen.specs.Calls.{ran}
 use Rattle.board.specs.declared.Board.{Board}
+use Rattle.board.specs.Boards.{inRange, frontOf}
+use Rattle.board.specs.Calls.{joined, following, atLine}
 use Rattle.board.specs.Runs.{Event, front, key, socket, toLocal, toConnected, obey, outTo, request, handedTo}
 use Rattle.board.specs.Runs.{requests, callsIn, Outside, InBoard}
 use Rattle.board.proofs.Parts.{apart}
+
+-- a call of `line` is what is heard of its byte, with the screen shown its share
+pub one-heard : (b : Board) (x : ℕ) → inRange b ≡ true
+    → atLine b x ≡ (let h = heardBy (frontOf b) x in
+    joined b (h .front .receiver) (h .front .links) (h .shares) Taken (h .request) (h .asked))
+unfolding following heardBy
+one-heard b x e = simp e
 
 pub hears : (h : Heard) (b : Board) → InBoard b
     → (obey (front h) b .next .receiver ≡ receiverObey h (b .receiver) .next)

@@ -30,7 +30,7 @@ ghost use Rattle.links.specs.declared.Answer.the-variants.{Taken, TooLarge, Bro
 ghost use Rattle.links.specs.Calls.{told};
 ghost use Rattle.board_feeding.specs.Feeding.{fromLine, nobody, fed, Enough};
 ghost use Rattle.board.specs.declared.Board.{Board};
-ghost use Rattle.board.specs.Boards.{freshBoard, inRange};
+ghost use Rattle.board.specs.Boards.{freshBoard, inRange, frontOf};
 ghost use Rattle.board.specs.Calls.{refused, joined as joinedOf, atLine, switchedOn};
 ghost use Rattle.board.specs.Pages.{NoCommand};
 ghost use Rattle.board.specs.Runs.{Event, front, key, socket, toLocal, toConnected, obey, run, outTo, request};
@@ -45,7 +45,6 @@ ghost use Rattle.board_pieces.specs.Pieces.{refused as pieceRefused};
 ghost use Rattle.board_pieces.specs.declared.Answer.the-variants.{NoRoom, Broken as PieceBroken};
 ghost use Rattle.board_pieces.specs.Noted.{noted, notedOf, notedTold, isNoted};
 ghost use Rattle.board_pieces.specs.Claims.{TakenWhole, NothingTaken, RoomFor};
-ghost use Rattle.board_pieces.specs.Playing.{frontOf};
 ghost use Rattle.board_pieces.specs.Cuts.{secondTaken, InTwo};
 ghost use Rattle.board_demands.specs.Example.{arrived, wanted, shown};
 

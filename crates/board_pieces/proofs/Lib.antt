@@ -1,7 +1,3 @@
-pub mod Written
-pub mod Spread
-pub mod SoFar
-pub mod Gathered
 pub mod Single
 pub mod Numbered
 pub mod Noting

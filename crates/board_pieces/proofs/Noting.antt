@@ -3,13 +3,17 @@ use mathlib.Core.Path.{_≡_, refl, sym, ap, ap₂, _∙_}
 use mathlib.Core.Bool.{Bool, true, false, cond, not, _&&_}
 use mathlib.Core.List.{List, [], _++_}
 use Prim.Native.Nat.{ℕ, _≤_, _<_}
+use native.Mathlib.Omega.{arith}
 use lib.Dec.{leb}
 use lib.ListN.{length}
 use borrow.Author.Tests.{le-leb, lt-leb}
+use Rattle.lent.specs.Memory.{written}
+use Rattle.lent.proofs.Written.{begins}
 use Rattle.numbers.specs.Numbers.{numberOf, Told}
 use Rattle.line_receiver.specs.declared.Receiver.{Receiver}
 use Rattle.line_turns.specs.Notes.{notesOf}
 use Rattle.line_turns.proofs.Held.{notes-append}
+use Rattle.line_turns.proofs.Steps.{notes-many}
 use Rattle.board_front.specs.declared.Room.{Room}
 use Rattle.board_front.specs.Fitting.{within}
 use Rattle.board.specs.declared.Board.{Board}
@@ -17,7 +21,7 @@ use Rattle.board.specs.Boards.{inRange}
 use Rattle.board.specs.Runs.{run, InBoard}
 use Rattle.board_pieces.specs.declared.Answer.the-variants.{NoRoom, Broken}
 use Rattle.board_pieces.specs.declared.Passage.{Passage}
-use Rattle.board_pieces.specs.Pieces.{told, singly, yields, refused, linesOf, isTaken}
+use Rattle.board_pieces.specs.Pieces.{told, singly, yields, refused, linesOf, isTaken, leftIn}
 use Rattle.board_pieces.specs.Noted.{noted, notedOf, notedTold, isNoted}
 use Rattle.board_pieces.proofs.Numbered.{numbers}
 use Rattle.board_pieces.proofs.Single.{receiver-is}
@@ -67,6 +71,14 @@ module _ (b : Board) (xs : List ℕ) (r : Room) (n : ℕ) where
 
   pub noted-numbers : told (notedOf b xs r n .answer) ≡ notedTold b xs r n
   noted-numbers = told-by (leb (length xs) n) (inRange b) refl refl
+
+-- where there is a place for each note, all are written
+pub all-noted : (noting : Bool) (r : Receiver) (xs out : List ℕ) → (noting ≡ true → length xs ≤ length out)
+    → cond (noting && leb (length xs) (length out)) (written out 0 (notesOf r xs)) out ≡ leftIn noting (notesOf r xs) out
+all-noted true r xs out h =
+    ap (λ (t : Bool). cond t (written out 0 (notesOf r xs)) out) (le-leb (length xs) (length out) (h refl))
+    ∙ begins out (notesOf r xs) (omega (arith, notes-many r xs, h refl))
+all-noted false r xs out h = refl
 
 -- the notes on the parts of a piece are those on the whole
 pub notes-cut : (b : Board) → InBoard b → (xs ys : List ℕ)

@@ -2,7 +2,12 @@
 use mathlib.Core.Path.{_≡_, refl, sym, ap, ap₂, _∙_}
 use mathlib.Core.Bool.{Bool, true, false, cond, _&&_}
 use mathlib.Core.List.{List, [], _∷_, _++_}
-use Prim.Native.Nat.{ℕ}
+use Prim.Native.Nat.{ℕ, _≤_}
+use native.Mathlib.Nat.{zero-add}
+use native.Mathlib.Omega.{arith}
+use lib.ListN.{length}
+use Rattle.lent.specs.Memory.{written}
+use Rattle.lent.proofs.Written.{behind-all, begins}
 use Rattle.links_wiring.specs.declared.Module.{Module}
 use Rattle.links_wiring.specs.declared.Module.the-variants.{Screen, Keyboard, Modem, Socket}
 use Rattle.line_receiver.specs.declared.Receiver.{Receiver}
@@ -14,17 +19,17 @@ use Rattle.board_feeding.specs.Feeding.{fromLine, got}
 use Rattle.screen_page.specs.declared.Screen.{Screen as Page}
 use Rattle.screen.specs.Calls.{ran}
 use Rattle.board.specs.declared.Board.{Board}
-use Rattle.board.specs.Boards.{inRange}
-use Rattle.links.specs.declared.Answer.the-variants.{Taken as TakenByLinks}
-use Rattle.board.specs.Calls.{joined, following, atLine}
+use Rattle.board.specs.Boards.{inRange, frontOf}
 use Rattle.board.specs.Runs.{run, heardIn, callsIn, Outside, InBoard}
 use Rattle.board.proofs.Parts.{apart}
 use Rattle.board_pieces.specs.declared.Answer.the-variants.{Taken, NoRoom, Broken}
 use Rattle.board_front.specs.declared.Room.{Room}
-use Rattle.board_front.specs.LineBytes.{heardBy, bytes, calls, toEach, asks}
-use Rattle.board_front.specs.Fitting.{within, needed}
-use Rattle.board_pieces.specs.Pieces.{singly, handed, asked, yields, passage, refused, linesOf, isTaken}
-use Rattle.board_pieces.specs.Playing.{frontOf, heardWhole, played}
+use Rattle.board_front.specs.LineBytes.{bytes, calls, toEach, asks}
+use Rattle.board_front.specs.Fitting.{roomIn, within, needed}
+use Rattle.board_front.proofs.Rooms.{Fits, tested}
+use Rattle.board_playing.specs.declared.Played.{Played}
+use Rattle.board_playing.specs.Playing.{heardWhole, reached, played}
+use Rattle.board_pieces.specs.Pieces.{singly, handed, asked, yields, passage, refused, linesOf, isTaken, leftIn}
 
 heard-singly : (xs : List ℕ) → heardIn (singly xs) ≡ bytes xs
 heard-singly [] = refl
@@ -35,13 +40,6 @@ unfolding calls
 calls-singly r [] = refl
 calls-singly r (x ∷ xs) =
     ap (λ (cs : List Call). fromLine (sentBy (stepped r x) .passed) ++ cs) (calls-singly (stepped r x .next) xs)
-
--- one byte heard is one call of `line`, but for the screen, which is written then
-pub one-heard : (b : Board) (x : ℕ) → inRange b ≡ true
-    → atLine b x ≡ (let h = heardBy (frontOf b) x in
-    joined b (h .front .receiver) (h .front .links) (h .shares) TakenByLinks (h .request) (h .asked))
-unfolding following heardBy
-one-heard b x e = simp e
 
 module _ (b : Board) (i : InBoard b) (xs : List ℕ) where
   cs : callsIn (b .receiver) (singly xs) ≡ calls (b .receiver) xs
@@ -75,8 +73,9 @@ module _ (b : Board) (i : InBoard b) (xs : List ℕ) where
     tested-is : within (yields b xs) r ≡ within (needed (frontOf b) xs) r
     tested-is = ap (λ (n : Room). within n r) yields-is
 
-    pub taken-is : inRange b ≡ true → within (needed (frontOf b) xs) r ≡ true → played b xs ≡ linesOf b xs r
-    unfolding played linesOf
+    pub taken-is : inRange b ≡ true → within (needed (frontOf b) xs) r ≡ true
+        → passage (heardWhole b xs) Taken (needed (frontOf b) xs) ≡ linesOf b xs r
+    unfolding linesOf
     taken-is e w =
         ap₂ (λ (c : Board) (n : Room). passage c Taken n) (sym run-is) (sym yields-is)
         ∙ sym (ap₂ (λ (t u : Bool). cond t
@@ -104,3 +103,41 @@ broken-is b xs r e = (
       (refused b Broken)) e),
   ap (λ (t : Bool). t && within (yields b xs) r) e,
 )
+
+-- ---- where there is room, each output begins with all that it is handed
+
+module _ (b : Board) (xs k m s q : List ℕ) (w : within (needed (frontOf b) xs) (roomIn k m s q) ≡ true) where
+  abbrev room : Fits (needed (frontOf b) xs) (roomIn k m s q)
+  room = tested (needed (frontOf b) xs) (roomIn k m s q) w
+
+  all-reached : reached (frontOf b) xs k m s q ≡ needed (frontOf b) xs
+  all-reached =
+      let f = frontOf b in
+      simp (
+        behind-all k 0 (toEach Keyboard f xs) (omega (arith, room .keyboard)),
+        behind-all m 0 (toEach Modem f xs) (omega (arith, room .modem)),
+        behind-all s 0 (toEach Socket f xs) (omega (arith, room .socket)),
+        behind-all q 0 (asks f xs) (omega (arith, room .requests)),
+        zero-add,
+      )
+
+  pub all-handed : {p : Played} → p ≡ played b xs k m s q
+      → passage (p .next) Taken (p .used) ≡ passage (heardWhole b xs) Taken (needed (frontOf b) xs)
+  unfolding played
+  all-handed e =
+      ap (λ (n : Played). passage (n .next) Taken (n .used)) e
+      ∙ ap (passage (heardWhole b xs) Taken) all-reached
+
+  pub all-written : InBoard b
+      → (written k 0 (toEach Keyboard (frontOf b) xs) ≡ leftIn true (handed Keyboard b xs) k)
+      × (written m 0 (toEach Modem (frontOf b) xs) ≡ leftIn true (handed Modem b xs) m)
+      × (written s 0 (toEach Socket (frontOf b) xs) ≡ leftIn true (handed Socket b xs) s)
+      × (written q 0 (asks (frontOf b) xs) ≡ leftIn true (asked b xs) q)
+  all-written i =
+      let out : (us vs out : List ℕ) → us ≡ vs → length vs ≤ length out → written out 0 vs ≡ leftIn true us out =
+      λ us vs out e h. begins out vs h ∙ ap (λ (ws : List ℕ). leftIn true ws out) (sym e) in (
+        out _ _ k (handed-is b i xs Keyboard tt) (room .keyboard),
+        out _ _ m (handed-is b i xs Modem tt) (room .modem),
+        out _ _ s (handed-is b i xs Socket tt) (room .socket),
+        out _ _ q (asked-is b i xs) (room .requests),
+      )

@@ -1,5 +1,5 @@
 -- When a piece is taken, what it comes to then, and what it leaves else. Assumes nothing.
-use mathlib.Core.Path.{_≡_, refl, ap, ap₂, _∙_}
+use mathlib.Core.Path.{_≡_, refl, sym, ap, ap₂, _∙_}
 use mathlib.Core.Bool.{Bool, true, false, cond, _&&_}
 use mathlib.Core.List.{List, _++_}
 use Prim.Native.Nat.{ℕ}
@@ -16,14 +16,14 @@ use Rattle.board_front.specs.Ample.{Ample}
 use Rattle.board_front.proofs.Amply.{amply}
 use Rattle.board_front.proofs.Rooms.{tested as fits-tested, passes}
 use Rattle.board.specs.declared.Board.{Board}
-use Rattle.board.specs.Boards.{inRange}
+use Rattle.board.specs.Boards.{inRange, frontOf}
 use Rattle.board.specs.Runs.{run, Outside, InBoard}
 use Rattle.board.proofs.Ranges.{tested}
 use Rattle.board_pieces.specs.declared.Answer.the-variants.{Taken, NoRoom, Broken}
 use Rattle.board_pieces.specs.declared.Passage.{Passage}
-use Rattle.board_pieces.specs.Pieces.{singly, handed, yields, passage, refused, linesOf, isTaken, leftIn}
+use Rattle.board_pieces.specs.Pieces.{singly, handed, asked, yields, passage, refused, linesOf, isTaken, leftIn}
+use Rattle.board_pieces.specs.Noted.{noted}
 use Rattle.board_pieces.specs.Claims.{wrote, TakenWhole, NothingTaken, RoomFor}
-use Rattle.board_pieces.specs.Playing.{frontOf}
 use Rattle.board_pieces.proofs.Numbered.{kept}
 use Rattle.board_pieces.proofs.Single.{is-taken}
 
@@ -89,6 +89,16 @@ taken-whole b xs r e =
     }
 
 -- ---- what it leaves
+
+same : {t : Bool} → t ≡ false → (vs out : List ℕ) → out ≡ leftIn t vs out
+same e vs out = sym (ap (λ (t : Bool). leftIn t vs out) e)
+
+-- the outputs, and the notes
+pub untouched : (b : Board) (xs k m s q n : List ℕ) {t u : Bool} → t ≡ false → u ≡ false
+    → (k ≡ leftIn t (handed Keyboard b xs) k) × (m ≡ leftIn t (handed Modem b xs) m)
+    × (s ≡ leftIn t (handed Socket b xs) s) × (q ≡ leftIn t (asked b xs) q) × (n ≡ leftIn u (noted b xs) n)
+untouched b xs k m s q n e f =
+    (same e (handed Keyboard b xs) k, same e (handed Modem b xs) m, same e (handed Socket b xs) s, same e (asked b xs) q, same f (noted b xs) n)
 
 -- a refusal writes nothing
 none-written : (b c : Board) (n : Room) (i w : Bool) → i && w ≡ false → (count : Passage → ℕ)

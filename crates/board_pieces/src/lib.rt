@@ -2,9 +2,9 @@
 //
 // `lines` does what single calls of `line` would do one after the other, with the ranges tested once. Where an output
 // lacks room for what the whole piece yields, nothing is taken and no output is touched: so where that is not certain
-// beforehand, the piece is heard for it first (crate `board_front`), and then for good (playing.rt), in turns of many
-// bytes (crate `line_turns`). `lines_noted` hands out besides what each byte was to the receiver, for a night book.
-// specs/Pieces says what both promise; proofs/ shows that hearing turn by turn comes to that.
+// beforehand, the piece is heard for it first (crate `board_front`), and then for good (crate `board_playing`).
+// `lines_noted` hands out besides what each byte was to the receiver, for a night book.
+// specs/Pieces says what both promise; proofs/ shows that hearing the piece comes to what single calls come to.
 ghost use mathlib.Core.Path.{_≡_};
 ghost use mathlib.Core.Bool.{true, _&&_};
 ghost use Prim.Native.Nat.{_≤_};
@@ -13,15 +13,9 @@ ghost use Rattle.links_wiring.specs.declared.Module.the-variants.{Keyboard, Mod
 ghost use Rattle.board_front.specs.Fitting.{roomIn};
 ghost use Rattle.board_pieces.specs.Pieces.{refused, linesOf, isTaken, handed, asked, leftIn};
 ghost use Rattle.board_pieces.specs.Noted.{noted, notedOf, isNoted};
-
-mod outputs;
-mod passing;
-mod playing;
-
 use board::Board;
 use board_front::Front;
 use board_front::Room;
-use playing::play;
 
 // What a call answers: the paper's 0, 4 and 5.
 pub enum Answer {
@@ -89,7 +83,7 @@ fn hear_piece(
         let links = board.links;
         let front = Front { receiver, links };
         if board_front::fits(front, piece, room) {
-            return play(
+            let played = board_playing::play(
                 board,
                 piece,
                 keyboard,
@@ -99,6 +93,16 @@ fn hear_piece(
                 notes,
                 noting,
             );
+            let next = played.next;
+            let used = played.used;
+            return Passage {
+                next,
+                answer: Answer::Taken,
+                keyboard: used.keyboard,
+                modem: used.modem,
+                socket: used.socket,
+                requests: used.requests,
+            };
         }
         return refuse(board, Answer::NoRoom);
     }

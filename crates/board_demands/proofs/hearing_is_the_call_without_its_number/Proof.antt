@@ -1,7 +1,7 @@
 -- The theorem is proved where its words are. Assumes nothing.
 use Rattle.board_feeding.proofs.Refused.{broken-fed, large-fed}
 use Rattle.board_front.proofs.Refused.{broken-receiver, broken-links}
-use Rattle.board_pieces.proofs.Single.{one-heard}
+use Rattle.board.proofs.Events.{one-heard}
 use Rattle.board_demands.proofs.hearing_is_the_call_without_its_number.Statement.{statement}
 use Rattle.board_demands.proofs.hearing_is_the_call_without_its_number.Tie as tie
 

@@ -1,5 +1,5 @@
 -- `board_pieces::hear_piece` meets its contract. Assumes nothing.
-use mathlib.Core.Path.{_≡_, sym, ap, ap₂, _∙_}
+use mathlib.Core.Path.{_≡_, sym, ap, _∙_}
 use mathlib.Core.Bool.{Bool, true, false, _&&_}
 use mathlib.Core.List.{List}
 use Prim.Native.Nat.{ℕ}
@@ -9,13 +9,14 @@ use Rattle.links_wiring.specs.declared.Module.the-variants.{Keyboard, Modem, So
 use Rattle.board_front.specs.declared.Room.{Room}
 use Rattle.board_front.specs.Fitting.{roomIn, within, needed}
 use Rattle.board.specs.declared.Board.{Board}
-use Rattle.board.specs.Boards.{inRange}
+use Rattle.board.specs.Boards.{inRange, frontOf}
 use Rattle.board.specs.Runs.{InBoard}
 use Rattle.board.proofs.Ranges.{passed-in}
 use Rattle.board_pieces.specs.Pieces.{handed, asked, isTaken, leftIn}
 use Rattle.board_pieces.specs.Noted.{noted}
-use Rattle.board_pieces.specs.Playing.{frontOf}
-use Rattle.board_pieces.proofs.Single.{handed-is, asked-is, taken-is, short-is, is-taken, broken-is}
+use Rattle.board_pieces.proofs.Single.{taken-is, short-is, is-taken, broken-is, all-handed, all-written}
+use Rattle.board_pieces.proofs.Noting.{all-noted}
+use Rattle.board_pieces.proofs.Taken.{untouched}
 use Rattle.board_pieces.proofs.hear_piece.Statement.{statement}
 use Rattle.board_pieces.proofs.hear_piece.Tie as tie
 
@@ -44,35 +45,8 @@ module _ (d : tie.After-fits2) where
       let g = start .good .0 in
       passed-in (start .args .board) (search (needs, g)) (search (length-mapped, g)) range
 
--- the outputs of a piece that is not taken
-module _ (s : tie.Start) (t : Bool) (e : t ≡ false) where
-  same : (vs out : List ℕ) → out ≡ leftIn t vs out
-  same vs out = sym (ap (λ (u : Bool). leftIn u vs out) e)
-
-  abbrev b : Board
-  b = s .args .board
-
-  abbrev xs : List ℕ
-  xs = s .args .piece .now
-
-  untouched : (s .args .keyboard .now ≡ leftIn t (handed Keyboard b xs) (s .args .keyboard .now))
-      × (s .args .modem .now ≡ leftIn t (handed Modem b xs) (s .args .modem .now))
-      × (s .args .socket .now ≡ leftIn t (handed Socket b xs) (s .args .socket .now))
-      × (s .args .requests .now ≡ leftIn t (asked b xs) (s .args .requests .now))
-      × (s .args .notes .now ≡ leftIn (t && s .args .noting) (noted b xs) (s .args .notes .now))
-  untouched = (
-    same (handed Keyboard b xs) (s .args .keyboard .now),
-    same (handed Modem b xs) (s .args .modem .now),
-    same (handed Socket b xs) (s .args .socket .now),
-    same (asked b xs) (s .args .requests .now),
-    sym (ap (λ (u : Bool). leftIn (u && s .args .noting) (noted b xs) (s .args .notes .now)) e),
-  )
-
 play-requires : tie.Need-play-requires
-play-requires c κs =
-    let t = c .before .before .before .before .before in
-    let d = t .before in
-    (whole d .screen, (sym (d .fits2 .ensures) ∙ t .if2 .taken, start d .pre))
+play-requires c κs = search needs
 
 same-length : tie.Need-same-length
 same-length c = search needs
@@ -91,7 +65,7 @@ same-length-5 c = search needs
 
 returns : tie.Need-returns
 returns c =
-    let p = c .before .before .before .before .before .before .before .before .before .before in
+    let p = c .before .before .before .before .before .before .before .before .before .before .before .before in
     let t = p .before .before .before .before .before .before in
     let d = t .before in
     let e = p .play .ensures in
@@ -100,15 +74,21 @@ returns c =
     let xs = a .piece .now in
     let w : within (needed (frontOf b) xs) (room d) ≡ true = sym (d .fits2 .ensures) ∙ t .if2 .taken in
     let y : isTaken b xs (room d) ≡ true = is-taken b (whole d) xs (room d) true (range d) w in
-    let out : (vs us out : List ℕ) → us ≡ vs → leftIn true vs out ≡ leftIn (isTaken b xs (room d)) us out =
-    λ vs us out p. sym (ap₂ (λ (u : Bool) (ws : List ℕ). leftIn u ws out) y p) in (
-      e .0 ∙ taken-is b (whole d) xs (room d) (range d) w,
+    let k = a .keyboard .now in
+    let m = a .modem .now in
+    let s = a .socket .now in
+    let q = a .requests .now in
+    let all = all-written b xs k m s q w (whole d) in
+    let taken : (vs out : List ℕ) → leftIn true vs out ≡ leftIn (isTaken b xs (room d)) vs out =
+    λ vs out. sym (ap (λ (u : Bool). leftIn u vs out) y) in (
+      all-handed b xs k m s q w (e .0) ∙ taken-is b (whole d) xs (room d) (range d) w,
       (
-        e .1 .0 ∙ out _ _ _ (handed-is b (whole d) xs Keyboard tt),
-        e .1 .1 .0 ∙ out _ _ _ (handed-is b (whole d) xs Modem tt),
-        e .1 .1 .1 .0 ∙ out _ _ _ (handed-is b (whole d) xs Socket tt),
-        e .1 .1 .1 .1 .0 ∙ out _ _ _ (asked-is b (whole d) xs),
-        e .1 .1 .1 .1 .1 ∙ sym (ap (λ (u : Bool). leftIn (u && a .noting) (noted b xs) (a .notes .now)) y),
+        e .1 .0 ∙ all .0 ∙ taken (handed Keyboard b xs) k,
+        e .1 .1 .0 ∙ all .1 ∙ taken (handed Modem b xs) m,
+        e .1 .1 .1 .0 ∙ all .2 ∙ taken (handed Socket b xs) s,
+        e .1 .1 .1 .1 .0 ∙ all .3 ∙ taken (asked b xs) q,
+        e .1 .1 .1 .1 .1 ∙ all-noted (a .noting) (b .receiver) xs (a .notes .now) (start d .pre)
+            ∙ sym (ap (λ (u : Bool). leftIn (u && a .noting) (noted b xs) (a .notes .now)) y),
       ),
     )
 
@@ -118,11 +98,15 @@ refuse-requires c κs = search needs
 returns-2 : tie.Need-returns-2
 returns-2 c =
     let d = c .before .before in
-    let b = start d .args .board in
-    let xs = start d .args .piece .now in
+    let a = start d .args in
+    let b = a .board in
+    let xs = a .piece .now in
     let w : within (needed (frontOf b) xs) (room d) ≡ false = sym (d .fits2 .ensures) ∙ c .before .if2 .left in
-    let t : isTaken b xs (room d) ≡ false = is-taken b (whole d) xs (room d) false (range d) w in
-    (c .refuse .ensures ∙ short-is b (whole d) xs (room d) (range d) w, untouched (start d) (isTaken b xs (room d)) t)
+    let t : isTaken b xs (room d) ≡ false = is-taken b (whole d) xs (room d) false (range d) w in (
+      c .refuse .ensures ∙ short-is b (whole d) xs (room d) (range d) w,
+      untouched b xs (a .keyboard .now) (a .modem .now) (a .socket .now) (a .requests .now) (a .notes .now) t
+          (ap (λ (u : Bool). u && a .noting) t),
+    )
 
 refuse-requires-2 : tie.Need-refuse-requires-2
 refuse-requires-2 c κs = search needs
@@ -133,8 +117,11 @@ returns-3 c =
     let a = s .args in
     let r = roomIn (a .keyboard .now) (a .modem .now) (a .socket .now) (a .requests .now) in
     let e : inRange (a .board) ≡ false = sym (c .before .before .in-range .ensures) ∙ c .before .if1 .left in
-    let n = broken-is (a .board) (a .piece .now) r e in
-    (c .refuse2 .ensures ∙ n .0, untouched s (isTaken (a .board) (a .piece .now) r) (n .1))
+    let n = broken-is (a .board) (a .piece .now) r e in (
+      c .refuse2 .ensures ∙ n .0,
+      untouched (a .board) (a .piece .now) (a .keyboard .now) (a .modem .now) (a .socket .now) (a .requests .now)
+          (a .notes .now) (n .1) (ap (λ (u : Bool). u && a .noting) (n .1)),
+    )
 
 pub hear-piece-spec : {M : Type 1} → statement M
 hear-piece-spec =

@@ -9,11 +9,11 @@ use borrow.Author.Needs.{needs}
 use Rattle.links_wiring.specs.declared.Module.the-variants.{Keyboard, Modem, Socket}
 use Rattle.board_front.specs.declared.Room.{Room}
 use Rattle.board_front.specs.Fitting.{roomIn}
-use Rattle.board.specs.declared.Board.{Board}
 use Rattle.board.specs.Boards.{inRange}
 use Rattle.board_pieces.specs.Pieces.{handed, asked, isTaken, leftIn}
 use Rattle.board_pieces.specs.Noted.{noted, notedOf, isNoted}
 use Rattle.board_pieces.proofs.Noting.{places, not-taken, too-few}
+use Rattle.board_pieces.proofs.Taken.{untouched}
 use Rattle.board_pieces.proofs.lines_noted.Statement.{statement}
 use Rattle.board_pieces.proofs.lines_noted.Tie as tie
 
@@ -27,30 +27,6 @@ refuse-requires c κs = search needs
 abbrev room : tie.Start → Room
 room s = roomIn (s .args .keyboard .now) (s .args .modem .now) (s .args .socket .now) (s .args .requests .now)
 
--- the outputs of a piece that is not taken
-module _ (s : tie.Start) (t : Bool) (e : t ≡ false) where
-  same : (vs out : List ℕ) → out ≡ leftIn t vs out
-  same vs out = sym (ap (λ (u : Bool). leftIn u vs out) e)
-
-  abbrev b : Board
-  b = s .args .board
-
-  abbrev xs : List ℕ
-  xs = s .args .piece .now
-
-  untouched : (s .args .keyboard .now ≡ leftIn t (handed Keyboard b xs) (s .args .keyboard .now))
-      × (s .args .modem .now ≡ leftIn t (handed Modem b xs) (s .args .modem .now))
-      × (s .args .socket .now ≡ leftIn t (handed Socket b xs) (s .args .socket .now))
-      × (s .args .requests .now ≡ leftIn t (asked b xs) (s .args .requests .now))
-      × (s .args .notes .now ≡ leftIn t (noted b xs) (s .args .notes .now))
-  untouched = (
-    same (handed Keyboard b xs) (s .args .keyboard .now),
-    same (handed Modem b xs) (s .args .modem .now),
-    same (handed Socket b xs) (s .args .socket .now),
-    same (asked b xs) (s .args .requests .now),
-    same (noted b xs) (s .args .notes .now),
-  )
-
 returns : tie.Need-returns
 returns c =
     let k = c .before .before in
@@ -58,11 +34,12 @@ returns c =
     let s = t .before .before .before .before .before .before .before in
     let a = s .args in
     let short : length (a .notes .now) < length (a .piece .now) = omega (arith, t .if1 .taken) in
+    let none = not-taken (a .board) (a .piece .now) (room s) (length (a .notes .now)) short in
     let e : inRange (a .board) ≡ true = sym (k .in-range .ensures) ∙ c .before .if2 .taken in (
       c .refuse .ensures
           ∙ too-few (a .board) (a .piece .now) (room s) (length (a .notes .now)) short true e,
-      untouched s (isNoted (a .board) (a .piece .now) (room s) (length (a .notes .now)))
-          (not-taken (a .board) (a .piece .now) (room s) (length (a .notes .now)) short),
+      untouched (a .board) (a .piece .now) (a .keyboard .now) (a .modem .now) (a .socket .now) (a .requests .now)
+          (a .notes .now) none none,
     )
 
 refuse-requires-2 : tie.Need-refuse-requires-2
@@ -75,11 +52,12 @@ returns-2 c =
     let s = t .before .before .before .before .before .before .before in
     let a = s .args in
     let short : length (a .notes .now) < length (a .piece .now) = omega (arith, t .if1 .taken) in
+    let none = not-taken (a .board) (a .piece .now) (room s) (length (a .notes .now)) short in
     let e : inRange (a .board) ≡ false = sym (k .in-range .ensures) ∙ c .before .if2 .left in (
       c .refuse2 .ensures
           ∙ too-few (a .board) (a .piece .now) (room s) (length (a .notes .now)) short false e,
-      untouched s (isNoted (a .board) (a .piece .now) (room s) (length (a .notes .now)))
-          (not-taken (a .board) (a .piece .now) (room s) (length (a .notes .now)) short),
+      untouched (a .board) (a .piece .now) (a .keyboard .now) (a .modem .now) (a .socket .now) (a .requests .now)
+          (a .notes .now) none none,
     )
 
 hear-piece-requires : tie.Need-hear-piece-requires
