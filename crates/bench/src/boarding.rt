@@ -3,12 +3,12 @@ use crate::pages::put_screen;
 use crate::portions::PORTION;
 use crate::states::put_links;
 use crate::states::put_receiver;
-use crate::texts::first;
 use crate::texts::put;
 use crate::texts::put_lines;
 use crate::texts::put_number;
 use crate::texts::sum;
 use board::Board;
+use lent::first;
 
 // As many bytes as an output may need for a piece of up to 4,096: with sixteen bytes held before it, and five for each
 // value. The keeper's program has the same.

@@ -2,13 +2,13 @@
 use crate::portions::PORTION;
 use crate::portions::remove_parity;
 use crate::states::put_links;
-use crate::texts::first;
 use crate::texts::put;
 use crate::texts::put_lines;
 use crate::texts::put_number;
 use crate::texts::sum;
 use board_feeding::Outlet;
 use board_feeding::Shares;
+use lent::first;
 use links::Links;
 
 // Links, and how many bytes each module got.

@@ -25,9 +25,9 @@ mod screening;
 mod states;
 mod texts;
 
-use texts::after_start;
-use texts::first;
-use texts::is;
+use lent::first;
+use lent::is;
+use lent::past;
 use texts::starts;
 
 fn write_usage() {
@@ -58,7 +58,7 @@ fn play(mode: &[u8], part: &[u8], fd: i32, writing: bool) {
 // Obeys one mode on the file of that name. One that cannot be opened gets a line on standard error.
 fn obey(mode: &[u8], name: &[u8]) {
     let writing = starts(mode, b"write-");
-    let part = if writing { after_start(mode, 6) } else { mode };
+    let part = if writing { past(mode, 6) } else { mode };
     let fd = os::open_read(name);
     if fd < 0 {
         io::write_all(libc::STDERR_FILENO, b"bench: ");

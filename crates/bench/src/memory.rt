@@ -1,7 +1,7 @@
 // The mode `memory`: of a process's status, as the system writes it in /proc, the line that has its peak memory.
-use crate::texts::first;
 use crate::texts::put;
 use crate::texts::starts;
+use lent::first;
 
 // How long the first line of a text is, with its end.
 fn line_length(text: &[u8]) -> usize {

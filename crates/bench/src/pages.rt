@@ -1,11 +1,11 @@
 // The state of a screen as text: every cell in seven digits, a row to a line, and the pen.
-use crate::texts::add;
-use crate::texts::after_start;
 use crate::texts::digit;
-use crate::texts::first;
 use crate::texts::put;
 use crate::texts::put_bytes;
 use crate::texts::put_number;
+use lent::add;
+use lent::first;
+use lent::past;
 use screen_attributes::Attributes;
 use screen_attributes::Waiting;
 use screen_cells::Cell;
@@ -45,7 +45,7 @@ fn spell(cells: [Cell; 1000], text: &mut [u8; DIGITS]) {
 fn put_row(text: &[u8; DIGITS], row: u64) {
     put_number(b"row ", row);
     put(b" ");
-    put(first(after_start(text, row_start(row)), 280));
+    put(first(past(text, row_start(row)), 280));
     put(b"\n");
 }
 

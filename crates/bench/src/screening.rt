@@ -2,10 +2,10 @@
 use crate::pages::put_screen;
 use crate::portions::PORTION;
 use crate::portions::remove_parity;
-use crate::texts::first;
 use crate::texts::put;
 use crate::texts::put_number;
 use crate::texts::sum;
+use lent::first;
 use screen_page::Screen;
 
 // A portion of values. They are all taken; were they not, the page would show it.

@@ -1,9 +1,9 @@
 // The states of receiver and links as text.
 use crate::texts::digit;
-use crate::texts::first;
 use crate::texts::put;
 use crate::texts::put_bytes;
 use crate::texts::put_number;
+use lent::first;
 use line_receiver::Phase;
 use line_receiver::Receiver;
 use links::Links;

@@ -1,20 +1,6 @@
-// Parts of lent memory, none longer than it is, and texts and numbers on standard output.
-
-// The first bytes of it, or all of them where it has fewer.
-pub(crate) fn first(s: &[u8], n: usize) -> &[u8] {
-    if n < s.len() {
-        return &s[0..n];
-    }
-    s
-}
-
-// Those behind the first `n`, or none where it has no more.
-pub(crate) fn after_start(s: &[u8], n: usize) -> &[u8] {
-    if n < s.len() {
-        return &s[n..];
-    }
-    &s[0..0]
-}
+// Texts and numbers on standard output.
+use lent::add;
+use lent::first;
 
 // Whether it starts with a word.
 pub(crate) fn starts(s: &[u8], word: &[u8]) -> bool {
@@ -29,11 +15,6 @@ pub(crate) fn starts(s: &[u8], word: &[u8]) -> bool {
         i += 1;
     }
     true
-}
-
-// Whether two words are the same.
-pub(crate) fn is(s: &[u8], word: &[u8]) -> bool {
-    s.len() == word.len() && starts(s, word)
 }
 
 // A sum that stays within its type, so that a count has no bound to prove. No file is so long that it is reached.
@@ -58,21 +39,6 @@ pub(crate) fn digit(n: u8) -> u8 {
         return b'0' + low;
     }
     b'a' + (low - 10)
-}
-
-// Adds what fits of `words` after the first `used` bytes of a text: how many are used then.
-pub(crate) fn add(words: &[u8], text: &mut [u8], used: usize) -> usize {
-    let mut at = used;
-    let mut i = 0;
-    while i < words.len() {
-        if at >= text.len() {
-            return at;
-        }
-        text[at] = words[i];
-        at += 1;
-        i += 1;
-    }
-    at
 }
 
 // The two digits of a byte.

@@ -10,9 +10,9 @@ use crate::files::is_there;
 use crate::files::show_progress;
 use crate::files::unread;
 use crate::numbers::grown;
-use crate::texts::first;
 use crate::texts::put;
 use block_maker::Made;
+use lent::first;
 
 // As many blocks as are written at once, their values and their bytes. A file of no more values has been read whole,
 // both times, before any of it is sent.

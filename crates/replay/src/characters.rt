@@ -1,5 +1,5 @@
 // A cell's character as UTF-8: a point of Unicode for each code of each set, and its bytes.
-use crate::texts::add;
+use lent::add;
 use screen_cells::Character;
 
 // G0: as ASCII, but for six.

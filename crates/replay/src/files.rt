@@ -2,9 +2,9 @@
 // program's name, and one that says how far a file is with two dots. None begins with a file's name, so that no name
 // can make a fault look like the other.
 use crate::numbers::grown;
-use crate::texts::add;
 use crate::texts::compose;
-use crate::texts::first;
+use lent::add;
+use lent::first;
 
 // How far a file is between two lines that say so.
 const STRIDE: u64 = 1048576;

@@ -24,8 +24,8 @@ mod rows;
 mod texts;
 
 use files::fail;
-use texts::first;
-use texts::is;
+use lent::first;
+use lent::is;
 
 fn write_usage() {
     io::write_all(

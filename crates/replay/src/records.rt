@@ -13,7 +13,7 @@ use crate::hut::ROOM;
 use crate::numbers::difference;
 use crate::rows::write_cursor;
 use crate::rows::write_rows;
-use crate::texts::first;
+use lent::first;
 use screen_page::Screen;
 
 // A record that is being played: its board, and its book.

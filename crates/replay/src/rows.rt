@@ -1,9 +1,9 @@
 // The page as lines of text: with the numbers of its rows and the cursor, or in the colours of a terminal.
 use crate::characters::add_character;
-use crate::texts::add;
-use crate::texts::first;
 use crate::texts::put;
 use crate::texts::tell;
+use lent::add;
+use lent::first;
 use screen_cells::Cell;
 use screen_page::Cursor;
 use screen_page::Read;

@@ -1,29 +1,8 @@
-// Parts of lent memory, none longer than it is, and texts put together in it, so that a caller has no length to prove.
+// Texts put together in lent memory, which has room for the longest: what does not fit is left out.
 use crate::files::fail;
 use crate::numbers::further;
-
-// The first bytes of it, or all of them where it has fewer.
-pub(crate) fn first(s: &[u8], n: usize) -> &[u8] {
-    if n < s.len() {
-        return &s[0..n];
-    }
-    s
-}
-
-// Whether two words are the same.
-pub(crate) fn is(word: &[u8], name: &[u8]) -> bool {
-    if word.len() != name.len() {
-        return false;
-    }
-    let mut i = 0;
-    while i < word.len() {
-        if word[i] != name[i] {
-            return false;
-        }
-        i += 1;
-    }
-    true
-}
+use lent::add;
+use lent::first;
 
 // The bytes of it from one place to another, or none where it has no such places.
 fn part(s: &[u8], from: usize, to: usize) -> &[u8] {
@@ -39,26 +18,6 @@ pub(crate) fn byte_at(s: &[u8], at: usize) -> u8 {
         return s[at];
     }
     0
-}
-
-// How much is used where something did not fit: more than any memory has.
-const FULL: usize = usize::MAX;
-
-// Adds `words` after the first `used` bytes of a text: how many are used then, or FULL where they do not fit. Whoever
-// makes a text lends enough for the longest.
-pub(crate) fn add(words: &[u8], text: &mut [u8], used: usize) -> usize {
-    if used > text.len() {
-        return FULL;
-    }
-    if words.len() > text.len() - used {
-        return FULL;
-    }
-    let mut i = 0;
-    while i < words.len() {
-        text[used + i] = words[i];
-        i += 1;
-    }
-    used + i
 }
 
 // Adds a number as its mark in a template asks: two hex digits for `%`, and decimal for `#`.

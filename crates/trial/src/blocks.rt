@@ -1,7 +1,5 @@
 // The commands of the block code: `make VALUES ROOM` and `judge BLOCK`. Each answers its words, up to the end of the
 // line, or says that they are no such command.
-use crate::parts::append;
-use crate::parts::first;
 use crate::words::MOST;
 use crate::words::after;
 use crate::words::bytes as bytes_of;
@@ -9,6 +7,8 @@ use crate::words::number;
 use crate::words::part;
 use crate::words::write_bytes;
 use block_maker::Made;
+use lent::add;
+use lent::first;
 
 // What the maker answered: its number, and the place of a value too large.
 fn write_made(made: Made) {
@@ -64,7 +64,7 @@ fn write_judged(block: &mut [u8]) {
     let mut bit: u8 = 0;
     let mut kept = [0u8; MOST];
     let part = block::judge(block, &mut said, &mut bit);
-    let k = append(part, &mut kept, 0);
+    let k = add(part, &mut kept, 0);
     write_verdict(said, bit);
     write_bytes(b' ', block);
     write_bytes(b' ', first(&kept, k));

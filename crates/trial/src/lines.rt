@@ -1,13 +1,13 @@
 // A script cut into lines. It arrives in portions, and a line may begin in one and end in another; a line ends with LF,
 // and the last may lack it.
-use crate::parts::append;
 use bytes::scan::find;
+use lent::add;
 
-// As many characters as a line may have.
+// As many characters as a line may have. The memory lent for one has a place more, by which a longer one is known.
 pub(crate) const LONGEST: usize = 9000;
 
 // Where the cutting stands: from where to where the portion is still to be cut; how many characters the line has so
-// far, FULL where they are too many, and whether that is all of it; and whether the script has ended.
+// far, more than LONGEST where they are too many, and whether that is all of it; and whether the script has ended.
 pub(crate) struct At {
     pub(crate) from: usize,
     pub(crate) to: usize,
@@ -27,7 +27,7 @@ fn take(mut at: At, portion: &[u8], line: &mut [u8]) -> At {
         return at;
     }
     let e = find(portion, from, to, b'\n');
-    at.length = append(&portion[from..e], line, at.length);
+    at.length = add(&portion[from..e], line, at.length);
     if e < to {
         at.whole = true;
         at.from = e + 1;

@@ -30,11 +30,11 @@ mod wires;
 mod words;
 
 use board::Board;
+use lent::first;
 use line_receiver::Receiver;
 use lines::At;
 use lines::LONGEST;
 use links::Links;
-use parts::first;
 use screen_page::Screen;
 use words::NONE;
 use words::after;
@@ -75,7 +75,7 @@ fn end(known: bool, number: u64) -> bool {
 // than a u64 counts.
 fn run(fd: i32, name: &[u8]) {
     let mut portion = io::large_buffer();
-    let mut line = [0u8; LONGEST];
+    let mut line = [0u8; LONGEST + 1];
     let mut receiver = Receiver::new();
     let mut screen = Screen::fresh();
     let mut links = Links::local();

@@ -1,5 +1,4 @@
 // The command `brd lines BYTES KEYBOARD MODEM SOCKET REQUESTS`: a piece of the line, with four outputs.
-use crate::parts::first;
 use crate::parts::first_mut;
 use crate::telling::write_output;
 use crate::telling::write_state;
@@ -11,6 +10,7 @@ use crate::words::part;
 use crate::words::write_count;
 use board::Board;
 use board_pieces::Answer;
+use lent::first;
 
 // How many bytes a piece has, and how many each output has room for.
 struct Sizes {

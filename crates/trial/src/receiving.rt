@@ -1,7 +1,6 @@
 // The commands of the line receiver: `rx new`, `rx on`, `rx off`, `rx ask`, `rx byte HH` and
 // `rx set PHASE NUMBER COUNT SEEN HELD`. Their answers are all of one form:
 // NUMBER passed=VALUES modem=BYTES state=PHASE,NUMBER,COUNT,SEEN,HELD.
-use crate::parts::first;
 use crate::words::after;
 use crate::words::byte;
 use crate::words::bytes as bytes_of;
@@ -11,6 +10,7 @@ use crate::words::place_among;
 use crate::words::write_bytes;
 use crate::words::write_count;
 use crate::words::write_number;
+use lent::first;
 use line_receiver::Phase;
 use line_receiver::Receiver;
 use line_receiver::Stepped;

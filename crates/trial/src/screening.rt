@@ -4,7 +4,6 @@
 // A screen is large, and a proof pays for each that a function holds: so words are read without one, and what acts on
 // one is small.
 use crate::loading::screen_of;
-use crate::parts::first;
 use crate::showing::spelled;
 use crate::showing::write_cells;
 use crate::showing::write_pen;
@@ -15,6 +14,7 @@ use crate::words::field;
 use crate::words::number;
 use crate::words::part;
 use crate::words::place_among;
+use lent::first;
 use screen::Answer;
 use screen_page::Read;
 use screen_page::Screen;

@@ -1,9 +1,9 @@
 // A screen's state as words of an answer: its cells, and all the rest of it.
-use crate::parts::append;
 use crate::words::letter;
 use crate::words::part;
 use crate::words::write_bytes;
 use crate::words::write_number;
+use lent::add;
 use screen_attributes::Attributes;
 use screen_attributes::Waiting;
 use screen_cells::Cell;
@@ -34,7 +34,7 @@ pub(crate) fn write_cells(cells: [Cell; 1000]) {
     let mut i = 0;
     while i < 1000 {
         let seven = spelled(cells[i]);
-        at = append(&seven, &mut text, at);
+        at = add(&seven, &mut text, at);
         i += 1;
     }
     io::write_all(1, &text);

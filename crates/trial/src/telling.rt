@@ -4,7 +4,6 @@
 // A board is larger than a screen, and a proof pays for each that a function holds: so few functions do, and each has
 // one place where the answer is written.
 use crate::linking::write_answer;
-use crate::parts::first;
 use crate::receiving::write_state as write_receiver;
 use crate::showing::write_cells;
 use crate::showing::write_pen;
@@ -13,6 +12,7 @@ use crate::words::write_bytes;
 use board::Board;
 use board::Outcome;
 use board_feeding::Outlet;
+use lent::first;
 
 // `dump`.
 pub(crate) fn dump(now: Board) -> Board {

@@ -1,7 +1,5 @@
 // The state of the links as words: the table, and what is unfinished from modem and from socket. It is read from the
 // words of a command, where one that names no such part makes `good` false, and written as words of an answer.
-use crate::parts::first;
-use crate::parts::past;
 use crate::words::after;
 use crate::words::byte;
 use crate::words::digit;
@@ -9,6 +7,8 @@ use crate::words::letter;
 use crate::words::part;
 use crate::words::place_among;
 use crate::words::write_bytes;
+use lent::first;
+use lent::past;
 use links::Links;
 use links_hearing::Unfinished;
 use links_sending::Bytes;

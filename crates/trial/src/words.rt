@@ -2,9 +2,10 @@
 //
 // Whoever has a word read lends `good`, which a word that names nothing of its kind makes false. So several words are
 // read one after the other, and the question is put once.
-use crate::parts::append;
-use crate::parts::first;
 use bytes::scan::find;
+use lent::add;
+use lent::first;
+use lent::is;
 
 // As many bytes as a word of a block command may name.
 pub(crate) const MOST: usize = 64;
@@ -16,21 +17,6 @@ pub(crate) const LARGEST: usize = 600;
 // What is answered where a word names nothing: above every count and number, so that whoever tests for a largest one
 // refuses it too.
 pub(crate) const NONE: usize = usize::MAX;
-
-// Whether two words are the same.
-pub(crate) fn is(word: &[u8], name: &[u8]) -> bool {
-    if word.len() != name.len() {
-        return false;
-    }
-    let mut i = 0;
-    while i < word.len() {
-        if word[i] != name[i] {
-            return false;
-        }
-        i += 1;
-    }
-    true
-}
 
 // Whether a word is `-`, which stands for none.
 pub(crate) fn is_dash(word: &[u8]) -> bool {
@@ -175,7 +161,7 @@ pub(crate) fn write_bytes(mark: u8, bytes: &[u8]) {
     let mut i = 0;
     while i < bytes.len() {
         let two = pair(bytes[i]);
-        at = append(&two, &mut text, at);
+        at = add(&two, &mut text, at);
         i += 1;
     }
     if i == 0 {

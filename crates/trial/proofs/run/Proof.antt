@@ -10,7 +10,7 @@ abbrev Inv-loop : tie.InvT-loop
 Inv-loop
     fd name portion₀ line₀ receiver₀ screen₀ links₀ board₀ at₀ number₀
     portion line receiver screen links board at number =
-    (length portion ≡ 65536) × (length line ≡ 9000)
+    (length portion ≡ 65536) × (length line ≡ 9001)
 
 abbrev μ-loop : tie.MeasureT-loop
 μ-loop

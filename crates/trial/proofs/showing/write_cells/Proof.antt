@@ -24,14 +24,14 @@ array-copy-out-spelled c = search needs
 spelled-requires : tie.Need-spelled-requires Inv-loop μ-loop
 spelled-requires c κs = search needs
 
-slice-aggregate-append : tie.Need-slice-aggregate-append Inv-loop μ-loop
-slice-aggregate-append c = search needs
+slice-aggregate-add : tie.Need-slice-aggregate-add Inv-loop μ-loop
+slice-aggregate-add c = search needs
 
-slice-aggregate-append-2 : tie.Need-slice-aggregate-append-2 Inv-loop μ-loop
-slice-aggregate-append-2 c = search needs
+slice-aggregate-add-2 : tie.Need-slice-aggregate-add-2 Inv-loop μ-loop
+slice-aggregate-add-2 c = search needs
 
-append-requires : tie.Need-append-requires Inv-loop μ-loop
-append-requires c κs = search needs
+add-requires : tie.Need-add-requires Inv-loop μ-loop
+add-requires c κs = search needs
 
 add-i : tie.Need-add-i Inv-loop μ-loop
 add-i c = search needs
@@ -61,9 +61,9 @@ write-cells-spec =
     mul-spelled
     array-copy-out-spelled
     spelled-requires
-    slice-aggregate-append
-    slice-aggregate-append-2
-    append-requires
+    slice-aggregate-add
+    slice-aggregate-add-2
+    add-requires
     add-i
     loop-less
     loop-again
