@@ -2,7 +2,7 @@
 -- table. Assumes nothing.
 use mathlib.Core.Path.{_≡_, refl, sym, ap, _∙_}
 use mathlib.Core.Bool.{true, cond}
-use mathlib.Core.List.{List, [], _∷_, _++_, append-nil}
+use mathlib.Core.List.{List, [], _∷_, append-nil}
 use Prim.Native.Nat.{ℕ, _<_}
 use Rattle.links_wiring.specs.declared.Module.{Module}
 use Rattle.links_wiring.specs.declared.Module.the-variants.{Screen, Keyboard, Socket}
@@ -15,7 +15,7 @@ use Rattle.links.specs.declared.Links.{Links}
 use Rattle.links.specs.declared.Outcome.{Outcome as LinksOutcome}
 use Rattle.links.specs.declared.Answer.the-variants.{Taken}
 use Rattle.links.specs.States.{unfinished}
-use Rattle.links.specs.Runs.{Call, key as keyCall, value, given, PassedOn}
+use Rattle.links.specs.Runs.{Call, key as keyCall, value, given}
 use Rattle.links.proofs.Flow.{plain-goes, key-goes}
 use Rattle.links.proofs.Choosing.{begins-local, begins-connected, local-chosen, connected-chosen}
 use Rattle.board_feeding.specs.Feeding.{got}

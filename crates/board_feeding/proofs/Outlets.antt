@@ -1,8 +1,8 @@
 -- What an outlet holds, with bytes put behind it. Assumes nothing.
 use mathlib.Core.Path.{_≡_, sym, ap, ap₂, _∙_}
-use mathlib.Core.List.{List, [], _∷_, _++_}
+use mathlib.Core.List.{List, _++_}
 use mathlib.Core.Logic.{_⊎_, inl, inr}
-use Prim.Native.Nat.{ℕ, zero, suc, _+_, _-_, _≤_, _<_, zero-le}
+use Prim.Native.Nat.{ℕ, zero, suc, _+_, _-_, _≤_, _<_}
 use native.Mathlib.Numerals.{unary-clauses}
 use native.Mathlib.Omega.{arith}
 use lib.ListN.{length, take, drop, replicate, length-append}
@@ -15,12 +15,6 @@ use Rattle.links_sending.specs.declared.Sent.{Sent}
 use Rattle.links_sending.specs.Sending.{bytesOf, partOf, gets}
 use Rattle.board_feeding.specs.declared.Outlet.{Outlet}
 use Rattle.board_feeding.specs.Feeding.{outlet, contents, sharesOf, appended, gathered}
-
--- no more are taken than there are
-pub taken-most : (n : ℕ) (vs : List ℕ) → length (take n vs) ≤ length vs
-taken-most zero vs = zero-le
-taken-most (suc n) [] = zero-le
-taken-most (suc n) (v ∷ vs) = omega (arith, taken-most n vs)
 
 -- no more than there are: the first k of m, where n were asked for
 module _ (b : List ℕ) (n k m : ℕ) (there : length b ≡ m) (least : (k ≤ n) × (k ≤ m) × (k < m → k ≡ n)) where

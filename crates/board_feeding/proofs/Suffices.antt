@@ -5,7 +5,7 @@ use mathlib.Core.List.{List, [], _∷_, _++_, append-assoc, append-nil}
 use Prim.Native.Nat.{ℕ, _+_, _*_, _≤_, _<_}
 use native.Mathlib.Numerals.{add-one}
 use native.Mathlib.Omega.{arith}
-use lib.ListN.{length, take, getD, length-append, length-map}
+use lib.ListN.{length, take, getD, length-append, length-map, length-take}
 use lib.Seq.{take-suc, length-take-le}
 use Rattle.values.specs.Large.{Values}
 use Rattle.values.proofs.Found.{values-none, values-append}
@@ -17,7 +17,7 @@ use Rattle.links.specs.Calls.{fromModem}
 use Rattle.links.specs.Runs.{Call, value, obey, given, run}
 use Rattle.links.proofs.Few.{few}
 use Rattle.board_feeding.specs.Feeding.{fromLine, got, sharesOf, fed, Enough, gathered}
-use Rattle.board_feeding.proofs.Outlets.{taken-most, gathers}
+use Rattle.board_feeding.proofs.Outlets.{gathers}
 
 -- ---- some calls, then others
 
@@ -111,7 +111,7 @@ pub suffices : (m : Module) (l : Links) (vs : List ℕ) (n : ℕ) → length vs 
 suffices m l vs n h =
     let few = few-got m l (fromLine (take n vs)) in
     let same = length-map (take n vs) (value modem) in
-    let less = taken-most n vs in omega (arith, few, same, less)
+    omega (arith, few, same, length-take n vs)
 
 pub enough : (l : Links) (vs : List ℕ) → length vs ≤ 15 → Enough (fed l vs .shares)
 unfolding fed

@@ -97,13 +97,13 @@ module _ (l : Links) (a b : List ℕ) where
     p = onward l a g u o
 
     place : (m : Module) (out : List ℕ) (at : ℕ)
-        → behind (written out at (got m l (fromLine a))) (behind out at (got m l (fromLine a))) (got m then (fromLine b))
+        → (let vs = got m l (fromLine a) in behind (written out at vs) (behind out at vs) (got m then (fromLine b)))
         ≡ behind out at (got m l (fromLine (a ++ b)))
     place m out at =
         behind-twice out at (got m l (fromLine a)) (got m then (fromLine b)) ∙ ap (behind out at) (sym (more m))
 
     bytes : (m : Module) (out : List ℕ) (at : ℕ)
-        → written (written out at (got m l (fromLine a))) (behind out at (got m l (fromLine a))) (got m then (fromLine b))
+        → (let vs = got m l (fromLine a) in written (written out at vs) (behind out at vs) (got m then (fromLine b)))
         ≡ written out at (got m l (fromLine (a ++ b)))
     bytes m out at =
         twice out at (got m l (fromLine a)) (got m then (fromLine b)) ∙ ap (written out at) (sym (more m))
@@ -149,8 +149,8 @@ module _ (l : Links) (g : ℕ) (u : Room) (o : Outs) where
 
 -- ---- one value more
 
-module _ (l : Links) (vs : List ℕ) (i : ℕ) (less : i < length vs) (g : ℕ) (u : Room) (o : Outs) {p : Onward} {left : Outs}
-    (so-far : p ≡ onward l (take i vs) g u o) (out : left ≡ handedOut l (take i vs) g u o) where
+module _ (l : Links) (vs : List ℕ) (i : ℕ) (less : i < length vs) (g : ℕ) (u : Room) (o : Outs)
+    {p : Onward} {left : Outs} (so-far : p ≡ onward l (take i vs) g u o) (out : left ≡ handedOut l (take i vs) g u o) where
   abbrev v : ℕ
   v = getD vs i 0
 

@@ -74,7 +74,8 @@ module _ (b : Board) (xs : List ℕ) (r : Room) (n : ℕ) where
 
 -- where there is a place for each note, all are written
 pub all-noted : (noting : Bool) (r : Receiver) (xs out : List ℕ) → (noting ≡ true → length xs ≤ length out)
-    → cond (noting && leb (length xs) (length out)) (written out 0 (notesOf r xs)) out ≡ leftIn noting (notesOf r xs) out
+    → cond (noting && leb (length xs) (length out)) (written out 0 (notesOf r xs)) out
+    ≡ leftIn noting (notesOf r xs) out
 all-noted true r xs out h =
     ap (λ (t : Bool). cond t (written out 0 (notesOf r xs)) out) (le-leb (length xs) (length out) (h refl))
     ∙ begins out (notesOf r xs) (omega (arith, notes-many r xs, h refl))

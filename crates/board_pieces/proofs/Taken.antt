@@ -1,7 +1,7 @@
 -- When a piece is taken, what it comes to then, and what it leaves else. Assumes nothing.
 use mathlib.Core.Path.{_≡_, refl, sym, ap, ap₂, _∙_}
 use mathlib.Core.Bool.{Bool, true, false, cond, _&&_}
-use mathlib.Core.List.{List, _++_}
+use mathlib.Core.List.{List}
 use Prim.Native.Nat.{ℕ}
 use lib.ListN.{length, take, drop}
 use lib.Seq.{take-append-seam, drop-append-seam}
@@ -97,8 +97,13 @@ same e vs out = sym (ap (λ (t : Bool). leftIn t vs out) e)
 pub untouched : (b : Board) (xs k m s q n : List ℕ) {t u : Bool} → t ≡ false → u ≡ false
     → (k ≡ leftIn t (handed Keyboard b xs) k) × (m ≡ leftIn t (handed Modem b xs) m)
     × (s ≡ leftIn t (handed Socket b xs) s) × (q ≡ leftIn t (asked b xs) q) × (n ≡ leftIn u (noted b xs) n)
-untouched b xs k m s q n e f =
-    (same e (handed Keyboard b xs) k, same e (handed Modem b xs) m, same e (handed Socket b xs) s, same e (asked b xs) q, same f (noted b xs) n)
+untouched b xs k m s q n e f = (
+  same e (handed Keyboard b xs) k,
+  same e (handed Modem b xs) m,
+  same e (handed Socket b xs) s,
+  same e (asked b xs) q,
+  same f (noted b xs) n,
+)
 
 -- a refusal writes nothing
 none-written : (b c : Board) (n : Room) (i w : Bool) → i && w ≡ false → (count : Passage → ℕ)

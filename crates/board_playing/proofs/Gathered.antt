@@ -2,7 +2,7 @@
 use mathlib.Core.Path.{_≡_, refl, sym, ap, _∙_, subst}
 use mathlib.Core.Bool.{Bool, true, false}
 use mathlib.Core.List.{List, [], _∷_, _++_, append-assoc, append-nil}
-use Prim.Native.Nat.{ℕ, zero, suc, _+_, _≤_, _<_, zero-le}
+use Prim.Native.Nat.{ℕ, zero, suc, _+_, _≤_, zero-le}
 use native.Mathlib.Nat.{not-suc-le-zero, le-of-suc-le-suc, zero-lt-suc}
 use native.Mathlib.Omega.{arith}
 use lib.ListN.{length, take}
@@ -49,7 +49,8 @@ in-parts s cells us ws v = go (broken s) refl
     go true e = ap (λ (x : Page). ran x ws .screen) (stays e us) ∙ stays e ws ∙ sym (stays e (us ++ ws))
     go false e =
         ap (λ (r : Ran). r .screen)
-        (sym (run-parts s us ws (true-screen s cells (unbroken-whole s e)) (values-left us ws v) (values-right us ws v)))
+        (sym (run-parts s us ws (true-screen s cells (unbroken-whole s e)) (values-left us ws v)
+        (values-right us ws v)))
 
 module _ {s : Page} {all : List ℕ} {t : Page} {g : List ℕ} {n : ℕ} (now : Shown s all t g n) where
   -- the rest shown too
@@ -76,7 +77,8 @@ module _ {s : Page} {all : List ℕ} {t : Page} {g : List ℕ} {n : ℕ} (now : 
       let us = now .shown in
       let fits : n + length ws ≤ length g = omega (arith, now .long, l) in
       let place : k ≡ n + length ws = b ∙ behind-all g n ws fits in
-      let p : take k d ≡ take n g ++ ws = ap (λ (j : ℕ). take j d) place ∙ ap (take (n + length ws)) e ∙ up-to g n ws fits in
+      let p : take k d ≡ take n g ++ ws =
+      ap (λ (j : ℕ). take j d) place ∙ ap (take (n + length ws)) e ∙ up-to g n ws fits in
       record {
         shown = us;
         screen = now .screen;

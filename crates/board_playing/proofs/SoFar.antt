@@ -1,6 +1,6 @@
 -- How far a piece is played, and what one turn more brings to the outputs. Assumes nothing.
 use mathlib.Core.Path.{_≡_, refl, sym, ap, ap₂, _∙_, subst}
-use mathlib.Core.Bool.{Bool, true, false, cond, _&&_}
+use mathlib.Core.Bool.{Bool, true, false, cond}
 use mathlib.Core.List.{List, _∷_, [], _++_}
 use Prim.Native.Nat.{ℕ, zero, suc, _+_, _-_, _≤_}
 use native.Mathlib.Omega.{arith}
@@ -126,7 +126,8 @@ module _ (f : Front) (xs : List ℕ) (i : ℕ) (t : Turn) {k m s q : List ℕ} {
       → toEach m f (take (i + t .took) xs) ≡ toEach m f (take i xs) ++ got m (o .links) (fromLine values)
   each m =
       next-each f xs i t taken m
-      ∙ ap (λ (l : Links). toEach m f (take i xs) ++ got m l (fromLine values)) (sym (ap (λ (g : Front). g .links) (now .front)))
+      ∙ ap (λ (l : Links). toEach m f (take i xs) ++ got m l (fromLine values))
+      (sym (ap (λ (g : Front). g .links) (now .front)))
 
   pub notes-then : notesOf (f .receiver) (take (i + t .took) xs)
       ≡ notesOf (f .receiver) (take i xs) ++ (replicate (t .took - 1) 0 ++ (t .note ∷ []))
@@ -168,8 +169,9 @@ module _ (f : Front) (xs : List ℕ) (i : ℕ) (t : Turn) {k m s q : List ℕ} {
   gathered-on g b e d = (ap (λ (x : Outs). x .screen) d, ap (λ (x : Onward). x .gathered) e)
 
 -- the whole piece is played, and the screen shown what is left
-pub all-played : (b : Board) {xs ys k m s q : List ℕ} {r : Receiver} {o : Onward} {a : ℕ} {k′ m′ s′ q′ : List ℕ} {u : Page}
-    → SoFar (frontOf b) ys k m s q r o a k′ m′ s′ q′ → u ≡ ran (b .screen) (toEach Screen (frontOf b) ys) .screen → ys ≡ xs
+pub all-played : (b : Board) {xs ys k m s q : List ℕ} {r : Receiver} {o : Onward} {a : ℕ} {k′ m′ s′ q′ : List ℕ}
+    {u : Page} → SoFar (frontOf b) ys k m s q r o a k′ m′ s′ q′
+    → u ≡ ran (b .screen) (toEach Screen (frontOf b) ys) .screen → ys ≡ xs
     → record {
       next = record { receiver = r; links = o .links; screen = u };
       used =
@@ -184,7 +186,8 @@ pub all-played : (b : Board) {xs ys k m s q : List ℕ} {r : Receiver} {o : Onwa
 unfolding played
 all-played b {xs} {ys} {k} {m} {s} {q} {r} {o} {a} {k′} {m′} {s′} {q′} {u} now shown e =
     let next : record { receiver = r; links = o .links; screen = u } ≡ heardWhole b ys =
-    ap₂ (λ (g : Front) (t : Page). record { receiver = g .receiver; links = g .links; screen = t }) (now .front) shown in
+    ap₂ (λ (g : Front) (t : Page). record { receiver = g .receiver; links = g .links; screen = t }) (now .front)
+    shown in
     let used : record {
       keyboard = o .used .keyboard;
       modem = o .used .modem;
@@ -192,7 +195,8 @@ all-played b {xs} {ys} {k} {m} {s} {q} {r} {o} {a} {k′} {m′} {s′} {q′} {
       requests = a;
     } ≡ reached (frontOf b) ys k m s q =
     simp (now .keyboard .place, now .modem .place, now .socket .place, now .requests .place) in
-    ap₂ (λ (n : Board) (w : Room). record { next = n; used = w }) next used ∙ ap (λ (zs : List ℕ). played b zs k m s q) e
+    ap₂ (λ (n : Board) (w : Room). record { next = n; used = w }) next used
+    ∙ ap (λ (zs : List ℕ). played b zs k m s q) e
 
 -- ---- the notes
 

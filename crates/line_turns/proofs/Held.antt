@@ -3,11 +3,10 @@ use mathlib.Core.Path.{_≡_, refl, sym, ap, ap₂, _∙_}
 use mathlib.Core.Bool.{Bool, true, false, cond, _&&_}
 use mathlib.Core.List.{List, [], _∷_, _++_, map, map-append}
 use Prim.Native.Nat.{ℕ, zero, suc, _+_, _-_, _≤_, _<_, zero-le}
-use native.Mathlib.Numerals.{add-one}
 use native.Mathlib.Omega.{arith}
 use lib.Dec.{T, ltb}
-use lib.ListN.{length, take, getD, set, replicate}
-use lib.Seq.{paste, paste-zero, paste-suc, take-suc, take-all, length-take-le}
+use lib.ListN.{length, take, getD, replicate, length-take}
+use lib.Seq.{paste-zero, paste-suc, take-suc, take-all, length-take-le}
 use borrow.Author.Tests.{ltb-true, lt-ltb, le-ltb}
 use Rattle.laws.proofs.Computed.{fails, holds, is-true, and-left, and-right, chosen}
 use Rattle.line_phases.specs.Phases.{awaitsMore, seenInRange}
@@ -17,9 +16,8 @@ use Rattle.line_receiver.specs.declared.Receiver.{Receiver}
 use Rattle.line_receiver.specs.declared.Stepped.{Stepped}
 use Rattle.line_receiver.specs.States.{inRange}
 use Rattle.line_receiver.specs.Calls.{silent, refused, holding, judgedHeld, byPhase, stepped}
-use Rattle.line_receiver.specs.Runs.{Event, byte, run, Sent, sentBy, sent}
+use Rattle.line_receiver.specs.Runs.{byte, run, Sent, sentBy, sent}
 use Rattle.line_receiver.specs.Page.{nothing}
-use Rattle.line_receiver.proofs.Fifteens.{take-short}
 use Rattle.line_receiver.proofs.Kept.{run-append, sent-append}
 use Rattle.line_receiver.proofs.Ranges.{in-range, number-in}
 use Rattle.line_turns.specs.Notes.{noteOn, noteOf, notesOf}
@@ -113,11 +111,6 @@ module _ (r : Receiver) (xs : List ℕ) (i : inRange r ≡ true) (p : r .phase �
 
 -- ---- as many as are only held
 
-taken-few : (n : ℕ) (xs : List ℕ) → length (take n xs) ≤ length xs
-taken-few zero xs = zero-le
-taken-few (suc n) [] = zero-le
-taken-few (suc n) (x ∷ xs) = let r = taken-few n xs in omega (arith, r)
-
 pub as-many : (n : ℕ) (xs : List ℕ) → n ≤ length xs → n ≡ length (take n xs)
 as-many n xs h = sym (length-take-le n xs h)
 
@@ -136,22 +129,23 @@ module _ (r : Receiver) (xs : List ℕ) where
       → {q : Receiver} → q ≡ filled r xs k → record { receiver = q; count = k } ≡ heldOf r xs
   unfolding heldOf
   holds-some h array k e {q} f =
-      let few = take-short (16 - r .count) xs in
+      let few = length-take (16 - r .count) xs in
       let held = all-held r xs (held-range r h) (held-phase r h) array k
-      (omega (arith, e, few, held-few r h)) (omega (arith, e, taken-few (16 - r .count) xs)) in
+      (omega (arith, e, few, held-few r h)) (omega (arith, e, few)) in
       ap (λ (p : Receiver). record { receiver = p; count = k }) (f ∙ sym (held .0))
       ∙ ap (λ (j : ℕ). record { receiver = behind r xs j; count = j }) (e ∙ sym (counted h))
 
   pub few-there : onlyHeld r xs ≤ length xs
   few-there =
-      chosen (λ (k : ℕ). k ≤ length xs) (holdsMore r) (λ h. taken-few (16 - r .count) xs) (λ h. zero-le)
+      chosen (λ (k : ℕ). k ≤ length xs) (holdsMore r) (λ h. omega (arith, length-take (16 - r .count) xs))
+      (λ h. zero-le)
 
   pub held-all : length (r .held) ≡ 17 → HeldOnly r xs (onlyHeld r xs)
   held-all array =
-      let few = take-short (16 - r .count) xs in
+      let few = length-take (16 - r .count) xs in
       chosen (HeldOnly r xs) (holdsMore r)
       (λ h. all-held r xs (held-range r h) (held-phase r h) array (length (take (16 - r .count) xs))
-      (omega (arith, few, held-few r h)) (taken-few (16 - r .count) xs))
+      (omega (arith, few, held-few r h)) (omega (arith, few)))
       (λ h. none-held r xs)
 
   pub holds-none : holdsMore r ≡ false → record { receiver = r; count = 0 } ≡ heldOf r xs

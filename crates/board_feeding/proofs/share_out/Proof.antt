@@ -3,12 +3,12 @@ use mathlib.Core.Path.{_≡_, ap, _∙_, subst⁻¹}
 use Prim.Native.Nat.{_≤_}
 use mathlib.Core.List.{[]}
 use native.Mathlib.Omega.{arith}
-use lib.ListN.{length}
+use lib.ListN.{length, length-take}
 use Rattle.links_sending.specs.declared.Bytes.{Bytes}
 use Rattle.links_sending.specs.Sending.{bytesOf, gets}
 use Rattle.board_feeding.specs.declared.Shares.{Shares}
 use Rattle.board_feeding.specs.Feeding.{sharesOf, gathered, Enough}
-use Rattle.board_feeding.proofs.Outlets.{taken-most, gathers}
+use Rattle.board_feeding.proofs.Outlets.{gathers}
 use borrow.Author.Needs.{needs}
 use Rattle.board_feeding.proofs.share_out.Statement.{statement}
 use Rattle.board_feeding.proofs.share_out.Tie as tie
@@ -25,7 +25,7 @@ returns c =
     let r : c .gather .result ≡ sharesOf (gets sent) =
     c .gather .ensures ∙ ap (λ (w : Shares). gathered w sent) (c .before .nothing .ensures) ∙ gathers (λ m. []) sent in
     let few : (b : Bytes) → length (b .codes) ≡ 5 → length (bytesOf b) ≤ 75 =
-    λ b n. omega (arith, n, taken-most (b .count) (b .codes)) in (
+    λ b n. omega (arith, n, length-take (b .count) (b .codes)) in (
       r,
       subst⁻¹ Enough r
           (record {

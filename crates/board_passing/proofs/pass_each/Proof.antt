@@ -1,11 +1,9 @@
 -- `board_passing::pass_each` meets its contract. Assumes nothing.
-use mathlib.Core.Path.{_≡_, sym, ap, ap₂, _∙_}
-use mathlib.Core.List.{List, [], _∷_}
+use mathlib.Core.Path.{_≡_, ap, _∙_}
 use Prim.Native.Nat.{ℕ, _-_, _≤_, _<_, zero-le}
 use native.Mathlib.Omega.{arith}
 use lib.ListN.{length, take}
 use borrow.Author.Needs.{needs}
-use Rattle.board_passing.specs.declared.Onward.{Onward}
 use Rattle.board_passing.specs.Passing.{Outs, outs, onward, handedOut}
 use Rattle.board_passing.proofs.Spread.{none-onward, none-handed, one-onward, one-handed, Long, as-long}
 use Rattle.board_passing.proofs.pass_each.Statement.{statement}
@@ -24,7 +22,8 @@ loop-holds : tie.Need-loop-holds Inv-loop μ-loop
 loop-holds c =
     let a = c .before .before .before .before .args in
     let o = outs (a .gathered .now) (a .keyboard .now) (a .modem .now) (a .socket .now) in
-    (zero-le, search needs, none-onward (a .links) (a .filled) (a .used) o, none-handed (a .links) (a .filled) (a .used) o)
+    let onwards = none-onward (a .links) (a .filled) (a .used) o in
+    (zero-le, search needs, onwards, none-handed (a .links) (a .filled) (a .used) o)
 
 abbrev start : tie.At-loop Inv-loop μ-loop → tie.Start Inv-loop μ-loop
 start l = l .before .before .before .before .before
@@ -62,8 +61,7 @@ loop-again c =
 
 -- the outputs stay as long as they were
 long : (c : tie.After-loop Inv-loop μ-loop)
-    → Long (outs (c .before .loop .gathered) (c .before .loop .keyboard) (c .before .loop .modem) (c .before .loop .socket))
-    (lent-out (c .before))
+    → (let l = c .before .loop in Long (outs (l .gathered) (l .keyboard) (l .modem) (l .socket)) (lent-out (c .before)))
 long c =
     let a = start (c .before) .args in
     as-long (a .links) (take (c .before .loop .i) (a .t2)) (a .filled) (a .used) (lent-out (c .before))

@@ -60,7 +60,8 @@ returns-2 c =
     let f = p .before .before .before .before .before in
     let a = f .before .before .before .before .before .before .before .before .args in
     let e = f .first .ensures in
-    (simp (p .pass-each .ensures .0, e, as-many (a .passed) (a .t2)), simp (p .pass-each .ensures .1, e, as-many (a .passed) (a .t2)))
+    let many = as-many (a .passed) (a .t2) in
+    (simp (p .pass-each .ensures .0, e, many), simp (p .pass-each .ensures .1, e, many))
 
 pub pass-on-spec : {M : Type 1} → statement M
 pass-on-spec =

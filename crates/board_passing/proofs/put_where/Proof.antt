@@ -1,10 +1,8 @@
 -- `board_passing::put_where` meets its contract. Assumes nothing.
-use mathlib.Core.Path.{_≡_, sym, ap, _∙_}
-use mathlib.Core.Bool.{Bool, cond}
-use mathlib.Core.List.{List, []}
+use mathlib.Core.Path.{_≡_}
+use mathlib.Core.List.{[]}
 use native.Mathlib.Omega.{arith}
-use lib.ListN.{length}
-use Rattle.lent.specs.Memory.{written, behind}
+use Rattle.lent.specs.Memory.{behind}
 use Rattle.lent.proofs.Written.{none-written}
 use borrow.Author.Needs.{needs}
 use Rattle.board_passing.proofs.put_where.Statement.{statement}

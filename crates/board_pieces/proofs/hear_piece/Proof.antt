@@ -8,7 +8,6 @@ use Rattle.laws.proofs.Lists.{length-mapped}
 use Rattle.links_wiring.specs.declared.Module.the-variants.{Keyboard, Modem, Socket}
 use Rattle.board_front.specs.declared.Room.{Room}
 use Rattle.board_front.specs.Fitting.{roomIn, within, needed}
-use Rattle.board.specs.declared.Board.{Board}
 use Rattle.board.specs.Boards.{inRange, frontOf}
 use Rattle.board.specs.Runs.{InBoard}
 use Rattle.board.proofs.Ranges.{passed-in}

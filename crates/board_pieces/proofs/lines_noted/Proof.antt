@@ -1,5 +1,5 @@
 -- `board_pieces::lines_noted` meets its contract. Assumes nothing.
-use mathlib.Core.Path.{_≡_, refl, sym, ap, ap₂, _∙_}
+use mathlib.Core.Path.{_≡_, refl, sym, ap, _∙_}
 use mathlib.Core.Bool.{Bool, true, false, _&&_}
 use mathlib.Core.List.{List}
 use Prim.Native.Nat.{ℕ, _<_}
@@ -11,7 +11,7 @@ use Rattle.board_front.specs.declared.Room.{Room}
 use Rattle.board_front.specs.Fitting.{roomIn}
 use Rattle.board.specs.Boards.{inRange}
 use Rattle.board_pieces.specs.Pieces.{handed, asked, isTaken, leftIn}
-use Rattle.board_pieces.specs.Noted.{noted, notedOf, isNoted}
+use Rattle.board_pieces.specs.Noted.{noted, isNoted}
 use Rattle.board_pieces.proofs.Noting.{places, not-taken, too-few}
 use Rattle.board_pieces.proofs.Taken.{untouched}
 use Rattle.board_pieces.proofs.lines_noted.Statement.{statement}
@@ -99,7 +99,10 @@ returns-3 c =
         e .1 .1 ∙ out (handed Modem (a .board) (a .piece .now)) (a .modem .now),
         e .1 .2 ∙ out (handed Socket (a .board) (a .piece .now)) (a .socket .now),
         e .1 .3 ∙ out (asked (a .board) (a .piece .now)) (a .requests .now),
-        e .1 .4 ∙ ap (λ (t : Bool). leftIn t (noted (a .board) (a .piece .now)) (a .notes .now)) (both-true (isTaken (a .board) (a .piece .now) (room s))) ∙ out (noted (a .board) (a .piece .now)) (a .notes .now),
+        e .1 .4
+            ∙ ap (λ (t : Bool). leftIn t (noted (a .board) (a .piece .now)) (a .notes .now))
+            (both-true (isTaken (a .board) (a .piece .now) (room s)))
+            ∙ out (noted (a .board) (a .piece .now)) (a .notes .now),
       ),
     )
 

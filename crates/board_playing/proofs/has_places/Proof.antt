@@ -1,5 +1,4 @@
 -- `board_playing::has_places` meets its contract. Assumes nothing.
-use mathlib.Core.Path.{_≡_}
 use borrow.Author.Needs.{needs}
 use Rattle.board_playing.proofs.has_places.Statement.{statement}
 use Rattle.board_playing.proofs.has_places.Tie as tie

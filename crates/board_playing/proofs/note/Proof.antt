@@ -2,7 +2,7 @@
 use mathlib.Core.Path.{_≡_, refl, sym, ap, _∙_}
 use mathlib.Core.Bool.{Bool, cond}
 use mathlib.Core.List.{List, [], _∷_, _++_}
-use Prim.Native.Nat.{ℕ, _+_, _-_, _≤_, _<_, zero-le}
+use Prim.Native.Nat.{ℕ, _+_, _-_, _≤_, zero-le}
 use native.Mathlib.Numerals.{add-one}
 use native.Mathlib.Omega.{arith}
 use lib.ListN.{length, set, replicate, length-set, length-replicate}
@@ -27,7 +27,8 @@ loop-holds : tie.Need-loop-holds Inv-loop μ-loop
 loop-holds c = (zero-le, sym (none-written (c .before .args .notes .now) (c .before .args .at)), refl)
 
 -- there is room for them
-fits : (c : tie.Then1 Inv-loop μ-loop) → c .before .args .at + c .before .args .took ≤ length (c .before .args .notes .now)
+fits : (c : tie.Then1 Inv-loop μ-loop)
+    → (let a = c .before .args in a .at + a .took ≤ length (a .notes .now))
 fits c = c .before .pre .1 (c .if1 .taken)
 
 add-notes : tie.Need-add-notes Inv-loop μ-loop

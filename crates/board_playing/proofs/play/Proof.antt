@@ -1,6 +1,6 @@
 -- `board_playing::play` meets its contract. Assumes nothing.
 use mathlib.Core.Path.{_≡_, refl, sym, ap, _∙_, subst, subst⁻¹}
-use mathlib.Core.Bool.{Bool, true, false, _&&_}
+use mathlib.Core.Bool.{Bool, true, false}
 use mathlib.Core.List.{List, [], _∷_, _++_}
 use mathlib.Core.Logic.{⊎-elim}
 use Prim.Native.Nat.{ℕ, _+_, _-_, _≤_, _<_, zero-le}
@@ -25,9 +25,9 @@ use Rattle.board_passing.specs.declared.Onward.{Onward}
 use Rattle.line_turns.specs.declared.Turn.{Turn}
 use Rattle.line_turns.specs.Notes.{notesOf}
 use Rattle.line_turns.specs.Turns.{turnOf, TakenSingly}
-use Rattle.line_turns.proofs.Steps.{taken-singly, few-sent}
-use Rattle.board_playing.proofs.SoFar.{SoFar, begun-none, each, notes-then, played-on, gathered-on, as-long, all-played}
-use Rattle.board_playing.proofs.SoFar.{notesLeft, notes-long, notes-on, noted-so-far}
+use Rattle.line_turns.proofs.Steps.{taken-singly}
+use Rattle.board_playing.proofs.SoFar.{SoFar, begun-none, as-long, each, notes-then, played-on, gathered-on}
+use Rattle.board_playing.proofs.SoFar.{all-played, notesLeft, notes-long, notes-on, noted-so-far}
 use Rattle.board_playing.proofs.Gathered.{Shown, begun, whole, flushed, added}
 use Rattle.board_playing.proofs.play.Statement.{statement}
 use Rattle.board_playing.proofs.play.Tie as tie
@@ -231,7 +231,8 @@ module _ (j : tie.Joined1 Inv-loop μ-loop) where
 
   shown-few : length shown-now ≤ 75
   shown-few =
-      suffices Screen (j .if1 .state .links) (turn d .stepped .values) (turn d .stepped .passed) (omega (arith, fifteen d))
+      let s = turn d .stepped in
+      suffices Screen (j .if1 .state .links) (s .values) (s .passed) (omega (arith, fifteen d))
 
 slice-aggregate-pass-on : tie.Need-slice-aggregate-pass-on Inv-loop μ-loop
 slice-aggregate-pass-on c = sym (l (c .before .before) .loop .inv .2 .long)
@@ -259,7 +260,8 @@ loop-again c =
     let put = j .before .before .before .before .add .ensures in
     let request = j .before .before .before .before .before .before .first .ensures in
     let ns = notesOf (first (l j) .receiver) (take (i e) (xs e)) in
-    let on = gathered-on (first (l j)) (xs e) (i e) (turn e) (now .1) (heard e) (o .gathered) (l j .loop .gathered) (x .0) (x .1) in
+    let on = gathered-on (first (l j)) (xs e) (i e) (turn e) (now .1) (heard e) (o .gathered) (l j .loop .gathered)
+    (x .0) (x .1) in
     let place : noted (l j) ≡ true → i e ≡ behind (a .notes .now) 0 ns =
     λ t. omega (
       arith,

@@ -1,6 +1,6 @@
 -- `lent::add` meets its contract. Assumes nothing.
 use mathlib.Core.Path.{_≡_, refl, sym, ap, _∙_}
-use mathlib.Core.List.{List}
+use mathlib.Core.List.{List, [], _∷_, _++_}
 use Prim.Native.Nat.{ℕ, _+_, _-_, _≤_, _<_, zero-le, min}
 use native.Mathlib.Numerals.{add-one}
 use native.Mathlib.Omega.{arith}
@@ -8,7 +8,7 @@ use lib.ListN.{length, take, getD, set, length-set}
 use lib.Seq.{take-suc, length-take-le}
 use borrow.Author.Needs.{needs}
 use Rattle.lent.specs.Memory.{written}
-use Rattle.lent.proofs.Written.{length-written, none-written, no-place, one-more, so-many}
+use Rattle.lent.proofs.Written.{none-written, no-place, one-more, so-many}
 use Rattle.lent.proofs.add.Statement.{statement}
 use Rattle.lent.proofs.add.Tie as tie
 
@@ -58,6 +58,8 @@ loop-again c =
     let i : ℕ = l .loop .i in
     let vs = take i (a .bytes .now) in
     let v : ℕ = getD (a .bytes .now) i 0 in
+    let next : vs ++ (v ∷ []) ≡ take (i + 1) (a .bytes .now) =
+    sym (ap (λ (k : ℕ). take k (a .bytes .now)) (add-one i) ∙ take-suc (a .bytes .now) i 0 (omega arith)) in
     let n : length vs ≡ i = length-take-le i (a .bytes .now) (omega arith) in (
       omega arith,
       l .loop .inv .1,
@@ -65,7 +67,7 @@ loop-again c =
       ap (λ (x : List ℕ). set x (a .at + i) v) (l .loop .inv .3)
           ∙ ap (λ (k : ℕ). set (written (a .out .now) (a .at) vs) (a .at + k) v) (sym n)
           ∙ one-more (a .out .now) (a .at) vs v
-          ∙ ap (written (a .out .now) (a .at)) (sym (ap (λ (k : ℕ). take k (a .bytes .now)) (add-one i) ∙ take-suc (a .bytes .now) i 0 (omega arith))),
+          ∙ ap (written (a .out .now) (a .at)) next,
       length-set (l .loop .out) (a .at + i) v ∙ l .loop .inv .4,
     )
 
