@@ -1,4 +1,4 @@
 pub mod Blocks
-pub mod Written
+pub mod Stores
 pub mod Numbered
 pub mod Left

@@ -1,7 +1,7 @@
-// What Outaksel promises of one hut. Each function here does nothing: its contract is a theorem about what feeding,
-// front, board and pieces define, so that the check's log names it. Their words are those of
-// crates/board/specs/Runs.antt and of Pieces.antt, Claims.antt and Cuts.antt in crates/pieces/specs, and each is proved
-// in the crate whose words it speaks. specs/Example is one page in bytes.
+// What Outaksel promises of one hut. Each function here does nothing: its contract is a theorem about what the crates
+// of the board define, so that the check's log names it. Their words are those of crates/board/specs/Runs.antt and of
+// Pieces.antt, Claims.antt and Cuts.antt in crates/board_pieces/specs, and each is proved in the crate whose words it
+// speaks. specs/Example is one page in bytes.
 ghost use mathlib.Core.Path.{_≡_};
 ghost use mathlib.Core.Bool.{Bool, true, false, cond};
 ghost use mathlib.Core.List.{List, [], _∷_, _++_, map};

@@ -7,7 +7,7 @@ use native.Mathlib.Numerals.{add-one, unary-clauses}
 use lib.ListN.{length, take, getD}
 use lib.Seq.{take-suc}
 use Rattle.lent.specs.Memory.{written, behind}
-use Rattle.lent.proofs.Written.{length-written, none-written, twice, behind-twice}
+use Rattle.lent.proofs.Behind.{length-written, none-written, twice, behind-twice}
 use Rattle.links_wiring.specs.declared.Module.{Module}
 use Rattle.links_wiring.specs.declared.Module.the-variants.{Screen, Keyboard, Modem, Socket}
 use Rattle.links_wiring.specs.Tables.{reaches}

@@ -8,7 +8,7 @@ use lib.Dec.{leb}
 use lib.ListN.{length}
 use borrow.Author.Tests.{le-leb, lt-leb}
 use Rattle.lent.specs.Memory.{written}
-use Rattle.lent.proofs.Written.{begins}
+use Rattle.lent.proofs.Behind.{begins}
 use Rattle.numbers.specs.Numbers.{numberOf, Told}
 use Rattle.line_receiver.specs.declared.Receiver.{Receiver}
 use Rattle.line_turns.specs.Notes.{notesOf}

@@ -7,7 +7,7 @@ use native.Mathlib.Nat.{zero-add}
 use native.Mathlib.Omega.{arith}
 use lib.ListN.{length}
 use Rattle.lent.specs.Memory.{written}
-use Rattle.lent.proofs.Written.{behind-all, begins}
+use Rattle.lent.proofs.Behind.{behind-all, begins}
 use Rattle.links_wiring.specs.declared.Module.{Module}
 use Rattle.links_wiring.specs.declared.Module.the-variants.{Screen, Keyboard, Modem, Socket}
 use Rattle.line_receiver.specs.declared.Receiver.{Receiver}

@@ -7,7 +7,7 @@ use native.Mathlib.Nat.{not-suc-le-zero, le-of-suc-le-suc, zero-lt-suc}
 use native.Mathlib.Omega.{arith}
 use lib.ListN.{length, take}
 use Rattle.lent.specs.Memory.{written, behind}
-use Rattle.lent.proofs.Written.{length-written, behind-all, up-to}
+use Rattle.lent.proofs.Behind.{length-written, behind-all, up-to}
 use Rattle.values.specs.Large.{Values}
 use Rattle.values.proofs.Found.{values-tail}
 use Rattle.screen_page.specs.declared.Screen.{Screen as Page}

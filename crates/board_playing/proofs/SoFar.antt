@@ -7,7 +7,7 @@ use native.Mathlib.Omega.{arith}
 use lib.ListN.{length, take, drop, replicate}
 use lib.Seq.{take-add, length-take-le}
 use Rattle.lent.specs.Memory.{written, behind}
-use Rattle.lent.proofs.Written.{length-written, none-written, twice, behind-twice}
+use Rattle.lent.proofs.Behind.{length-written, none-written, twice, behind-twice}
 use Rattle.links_wiring.specs.declared.Module.{Module}
 use Rattle.links_wiring.specs.declared.Module.the-variants.{Screen, Keyboard, Modem, Socket}
 use Rattle.line_receiver.specs.declared.Receiver.{Receiver}

@@ -1,2 +1,2 @@
-pub mod Written
+pub mod Behind
 pub mod Same

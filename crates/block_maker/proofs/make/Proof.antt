@@ -7,7 +7,7 @@ use lib.ListN.{length}
 use borrow.Author.Needs.{needs}
 use borrow.Author.Tests.{lt-ltb, le-ltb, eq-eqb, ne-eqb}
 use Rattle.values.specs.Large.{firstLarge}
-use Rattle.block_maker.proofs.Written.{both-written}
+use Rattle.block_maker.proofs.Stores.{both-written}
 use Rattle.block_maker.proofs.make.Statement.{statement}
 use Rattle.block_maker.proofs.make.Tie as tie
 

@@ -7,7 +7,7 @@ use lib.ListN.{set}
 use lib.Seq.{length-take-le}
 use borrow.Author.Needs.{needs}
 use Rattle.block_parity.specs.Parity.{withParity}
-use Rattle.block_maker.proofs.Written.{seal-stores}
+use Rattle.block_maker.proofs.Stores.{seal-stores}
 use Rattle.block_maker.proofs.seal.Statement.{statement}
 use Rattle.block_maker.proofs.seal.Tie as tie
 

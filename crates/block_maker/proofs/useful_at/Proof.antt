@@ -1,7 +1,7 @@
 -- `block_maker::useful_at` meets its contract. Assumes nothing.
 use mathlib.Core.Path.{sym, _∙_}
 use borrow.Author.Needs.{needs}
-use Rattle.block_maker.proofs.Written.{useful-in, useful-past}
+use Rattle.block_maker.proofs.Stores.{useful-in, useful-past}
 use Rattle.block_maker.proofs.useful_at.Statement.{statement}
 use Rattle.block_maker.proofs.useful_at.Tie as tie
 

@@ -3,7 +3,7 @@ use mathlib.Core.Path.{_≡_}
 use mathlib.Core.List.{[]}
 use native.Mathlib.Omega.{arith}
 use Rattle.lent.specs.Memory.{behind}
-use Rattle.lent.proofs.Written.{none-written}
+use Rattle.lent.proofs.Behind.{none-written}
 use borrow.Author.Needs.{needs}
 use Rattle.board_passing.proofs.put_where.Statement.{statement}
 use Rattle.board_passing.proofs.put_where.Tie as tie

@@ -8,7 +8,7 @@ use native.Mathlib.Omega.{arith}
 use lib.ListN.{length, set, replicate, length-set, length-replicate}
 use borrow.Author.Needs.{needs}
 use Rattle.lent.specs.Memory.{written}
-use Rattle.lent.proofs.Written.{none-written, one-more}
+use Rattle.lent.proofs.Behind.{none-written, one-more}
 use Rattle.board_playing.proofs.SoFar.{zeros-on}
 use Rattle.board_playing.proofs.note.Statement.{statement}
 use Rattle.board_playing.proofs.note.Tie as tie

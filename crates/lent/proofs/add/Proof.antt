@@ -8,7 +8,7 @@ use lib.ListN.{length, take, getD, set, length-set}
 use lib.Seq.{take-suc, length-take-le}
 use borrow.Author.Needs.{needs}
 use Rattle.lent.specs.Memory.{written}
-use Rattle.lent.proofs.Written.{none-written, no-place, one-more, so-many}
+use Rattle.lent.proofs.Behind.{none-written, no-place, one-more, so-many}
 use Rattle.lent.proofs.add.Statement.{statement}
 use Rattle.lent.proofs.add.Tie as tie
 
