@@ -19,7 +19,7 @@ use Rattle.screen_cells.specs.Cells.{blankOf}
 use Rattle.screen_attributes.specs.declared.Attributes.{Attributes}
 use Rattle.screen_writing.specs.Writing.{afterWriting}
 use Rattle.screen_writing.specs.Having.{Has, AlikeButZone}
-use Rattle.screen_writing.proofs.Cells.{written-has, written-alike}
+use Rattle.screen_writing.proofs.Having.{written-has, written-alike}
 use Rattle.screen_writing.proofs.Twice.{written-twice}
 use Rattle.screen_pen.specs.declared.Last.the-variants.{Was}
 use Rattle.screen_pen.specs.declared.Pen.{Pen}

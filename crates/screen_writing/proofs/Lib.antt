@@ -1,4 +1,4 @@
-pub mod Cells
+pub mod Having
 pub mod Stays
 pub mod Twice
 pub mod Mosaics

@@ -12,7 +12,7 @@ use Rattle.screen_attributes.specs.declared.Zone.{Zone}
 use Rattle.screen_attributes.specs.declared.Attributes.{Attributes}
 use Rattle.screen_attributes.specs.Within.{InWaiting, InZone, InForce}
 use Rattle.screen_writing.specs.Writing.{afterWaiting, afterWriting, cellOf}
-use Rattle.screen_writing.proofs.Cells.{cell-has}
+use Rattle.screen_writing.proofs.Having.{cell-has}
 
 waited-in : {z : Zone} (w : Waiting) (t : Bool) → InWaiting w → InZone z → InZone (afterWaiting w z t)
 waited-in Nothing t k h = h

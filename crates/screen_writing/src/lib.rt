@@ -1,7 +1,7 @@
 // A character written with the attributes in force (01, "Screen cells"): the ground that it takes, and its cell. This is
 // the one place where a written cell is made.
 //
-// specs/Writing says both; proofs/Cells shows what the cell has, proofs/Stays that attributes in range stay so,
+// specs/Writing says both; proofs/Having shows what the cell has, proofs/Stays that attributes in range stay so,
 // proofs/Twice that the same character once more takes nothing more, and proofs/Mosaics that writing makes nothing
 // inverse.
 ghost use mathlib.Core.Path.{_≡_};
