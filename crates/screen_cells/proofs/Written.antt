@@ -6,7 +6,7 @@ use mathlib.Core.List.{List, [], _∷_}
 use Prim.Native.Nat.{ℕ}
 use Rattle.screen_cells.specs.declared.Cell.{Cell}
 use Rattle.screen_cells.specs.Characters.{goodCharacter, takes}
-use Rattle.screen_cells.specs.Cells.{blankOf, goodCell, sameCell, isBlank}
+use Rattle.screen_cells.specs.Cells.{blankOf, goodCell, sameLooks, sameCell, isBlank}
 
 -- "A blank cell has set G1, code 2/0, ink 7, ground 0, no flash, not inverse"
 pub blank-is :
@@ -73,3 +73,14 @@ blanks-are = (
   refl,
   (refl, refl, (refl, refl, (refl, refl, (refl, refl, (refl, refl, (refl, refl, tt)))))),
 )
+
+-- looks, whatever the character: a mosaic beside A in ink 1 on ground 2, flashing and inverse; then each look alone differs
+abbrev mosaic : ℕ → ℕ → Bool → Bool → Cell
+mosaic i g f v = record { character = record { set = 1; code = 53 }; ink = i; ground = g; flash = f; inverse = v }
+
+pub looks-are : (sameLooks (coloured 1 2) (mosaic 1 2 true true) ≡ true)
+    × (sameLooks (coloured 1 2) (mosaic 2 2 true true) ≡ false)
+    × (sameLooks (coloured 1 2) (mosaic 1 1 true true) ≡ false)
+    × (sameLooks (coloured 1 2) (mosaic 1 2 false true) ≡ false)
+    × (sameLooks (coloured 1 2) (mosaic 1 2 true false) ≡ false)
+looks-are = (refl, refl, refl, refl, refl)
