@@ -1,13 +1,16 @@
-// Demand 3: what is handed on is the only valid block within one changed code bit of what arrived; a repeat is
-// asked exactly when there is none. A valid block hit once comes back whole; hit at any two of its 136 bits it is
+// Demand 3: what is handed on is the only valid block within one changed mendable bit of what arrived; a repeat is
+// asked exactly when there is none. A valid block hit once there comes back whole; hit at any two of its 136 bits it is
 // refused. What more hits can do is the same for every block.
 ghost use mathlib.Core.Path.{_≡_};
+ghost use mathlib.Core.Bool.{false};
 ghost use mathlib.Core.List.{List, [], _∷_, _++_};
 ghost use mathlib.Core.Logic.{_↔_};
-ghost use Prim.Native.Nat.{ℕ, _%_, _≤_, _<_};
-ghost use lib.ListN.{length, take, replicate};
-ghost use Rattle.block_validity.specs.Block.{Valid, Bytes};
-ghost use Rattle.block_validity.specs.Changed.{flip, hits, Places, distance};
+ghost use Prim.Native.Nat.{ℕ, _+_, _%_, _≤_, _<_};
+ghost use lib.ListN.{length, getD, set, take, replicate};
+ghost use Rattle.block_parity.specs.Parity.{even, odds};
+ghost use Rattle.block_validity.specs.Block.{codeBits, remainder, Valid, Bytes};
+ghost use Rattle.block_validity.specs.Changed.{turned, flip, hits, Places, Near, distance};
+ghost use Rattle.block_validity.specs.Mending.{Mends};
 ghost use Rattle.block_reader.specs.declared.Verdict.the-variants.{Clean, Mended, Repeat};
 ghost use Rattle.block_reader.specs.Judging.{verdict, judged, left, handed, mendable};
 ghost use Rattle.block_reader.specs.Claims.{NoneNear, OnlyNear};
@@ -18,6 +21,25 @@ pub fn handed_on_is_the_only_valid_block_near()
     ensures only { λ _. ⌜ ((B : List ℕ) → length B ≡ 17 → (verdict B ≡ Repeat → ⊥) → OnlyNear B (left B)) ⌝ }
     ensures part { λ _. ⌜ ((B : List ℕ) → judged B .number ≡ 0 → handed B ≡ take 15 (left B)) ⌝ }
     ensures asked { λ _. ⌜ ((B : List ℕ) → length B ≡ 17 → verdict B ≡ Repeat ↔ NoneNear B) ⌝ }
+{}
+
+// The bits that may be mended are the 127 code bits and one more: bit 127, behind them in block order, which is weight
+// 128 of byte 16, its parity bit, and no code bit. Where byte 17 is zero no other of the 136 could make a block valid.
+pub fn the_mendable_bits_are_the_code_bits_and_the_parity_bit_of_byte_16()
+    ensures { λ _. ⌜ ((B : List ℕ) → length B ≡ 17 → length (codeBits B) + 1 ≡ mendable) ⌝ }
+    ensures parity { λ _. ⌜ ((B : List ℕ) → length B ≡ 17
+        → (flip 127 B ≡ set B 15 (turned (getD B 15 0) 128)) × (codeBits (flip 127 B) ≡ codeBits B)) ⌝ }
+    ensures others { λ _. ⌜ ((B C : List ℕ) → length B ≡ 17 → getD B 16 0 ≡ 0
+        → Near 136 B C → Valid C → Near mendable B C) ⌝ }
+{}
+
+// The short way, by which the judge finds its bit: a mendable bit is mended exactly where byte 17 is zero, one of bytes
+// 1 to 16 alone is odd, the bit lies in it, and the remainder is what the bit alone leaves. The parity bit of byte 16
+// leaves nothing: it is mended exactly where byte 16 is the odd one and the remainder is zero.
+pub fn mended_where_the_remainder_points_into_the_one_odd_byte()
+    ensures { λ _. ⌜ ((B : List ℕ) (k : ℕ) → length B ≡ 17 → k < mendable → verdict B ≡ Mended k ↔ Mends k B) ⌝ }
+    ensures parity { λ _. ⌜ ((B : List ℕ) → length B ≡ 17 → verdict B ≡ Mended 127
+        ↔ (getD B 16 0 ≡ 0) × (odds (take 16 B) ≡ 1) × (even (getD B 15 0) ≡ false) × (remainder B ≡ 0)) ⌝ }
 {}
 
 // A valid block hit at any one mendable bit comes back whole, to the caller too, and the verdict names that bit. Hit
@@ -36,15 +58,20 @@ pub fn hit_twice_is_refused()
 {}
 
 // A valid block hit an odd number of times, at any of its 136 bits, is never clean; hit an even number of times it is
-// never mended. So three hits are mended or refused, and four are clean or refused. That is the best that can be said:
-// every valid block has three bits that, hit, are mended by a fourth, and with the fourth hit too are clean.
+// never mended. So three hits are mended or refused, and four are clean or refused; and whatever was hit, a bit is mended
+// exactly where the block with that bit changed is clean: three hits by a fourth exactly where all four are clean. That
+// is the best that can be said: every valid block has four such bits, and four with the parity bit of byte 16 among them.
 pub fn odd_hits_are_never_clean_even_hits_never_mended()
     ensures odd { λ _. ⌜ ((W ks : List ℕ) → Valid W → Places ks → length ks % 2 ≡ 1
         → verdict (hits ks W) ≡ Clean → ⊥) ⌝ }
     ensures even { λ _. ⌜ ((W ks : List ℕ) → Valid W → Places ks → length ks % 2 ≡ 0
         → (k : ℕ) → verdict (hits ks W) ≡ Mended k → ⊥) ⌝ }
+    ensures fourth { λ _. ⌜ ((B : List ℕ) (k : ℕ) → k < mendable
+        → verdict B ≡ Mended k ↔ verdict (flip k B) ≡ Clean) ⌝ }
     ensures reached { λ _. ⌜ ((W : List ℕ) → Valid W → (verdict (hits (0 ∷ 1 ∷ 90 ∷ []) W) ≡ Mended 94)
-        × (verdict (hits (94 ∷ 0 ∷ 1 ∷ 90 ∷ []) W) ≡ Clean)) ⌝ }
+        × (verdict (hits (94 ∷ 0 ∷ 1 ∷ 90 ∷ []) W) ≡ Clean)
+        × (verdict (hits (0 ∷ 3 ∷ 123 ∷ []) W) ≡ Mended 127)
+        × (verdict (hits (127 ∷ 0 ∷ 3 ∷ 123 ∷ []) W) ≡ Clean)) ⌝ }
 {}
 
 // Any valid block hit at any bits gets the verdict of seventeen zeros hit at the same bits, and comes back whole

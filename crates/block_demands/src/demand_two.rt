@@ -15,7 +15,7 @@ ghost use Rattle.block_validity.specs.Changed.{flip};
 ghost use Rattle.block_validity.specs.Units.{unit};
 ghost use Rattle.block_maker.specs.Making.{useful, blockOf, valuesOf, makeNumber, makeLeft};
 ghost use Rattle.block_reader.specs.declared.Verdict.the-variants.{Clean};
-ghost use Rattle.block_reader.specs.Judging.{verdict, handed, mendable};
+ghost use Rattle.block_reader.specs.Judging.{verdict, handed};
 
 // The remainder is zero exactly when the generator x^7 + x^3 + 1 divides the code bits as a polynomial.
 pub fn nothing_is_left_exactly_when_the_generator_divides()
@@ -32,11 +32,10 @@ pub fn a_byte_enters_the_division_in_one_step()
 {}
 
 // The bit in place k of bytes 1 to 15 stands for power 126 - k; weight 2^i of byte 16, in place 120 + i, stands for
-// power i. There are as many code bits as bits that may be mended.
+// power i.
 pub fn each_code_bit_stands_for_its_power()
     ensures useful { λ _. ⌜ ((k : ℕ) → k < 120 → polynomial 0 (codeBits (unit k)) ≡ 2 ^ (126 - k)) ⌝ }
     ensures check { λ _. ⌜ ((i : ℕ) → i < 7 → polynomial 0 (codeBits (unit (120 + i))) ≡ 2 ^ i) ⌝ }
-    ensures mendable { λ _. ⌜ ((B : List ℕ) → length B ≡ 17 → length (codeBits B) ≡ mendable) ⌝ }
 {}
 
 // Changing bit k changes exactly the bit in place k of block order.

@@ -1,4 +1,5 @@
 pub mod Verdicts
 pub mod Mending
+pub mod Mendable
 pub mod Handed
 pub mod AsZeros

@@ -1,25 +1,29 @@
--- The quick way to a verdict: one byte alone is odd, and the remainder points to a bit in it. Assumes nothing.
-use mathlib.Core.Path.{_≡_, refl, sym, _∙_, subst⁻¹}
+-- The quick way to a verdict: one byte alone is odd, and the remainder points to a bit in it. It is what `mend` does,
+-- and exactly where a bit is mended. Assumes nothing.
+use mathlib.Core.Path.{_≡_, refl, sym, _∙_, subst, subst⁻¹}
 use mathlib.Core.Bool.{Bool, true, false, not}
 use mathlib.Core.List.{List}
-use Prim.Native.Nat.{ℕ, _/_, _≤_, _<_}
+use mathlib.Core.Logic.{_↔_}
+use Prim.Native.Nat.{ℕ, _/_, _<_}
 use native.Mathlib.Omega.{arith}
 use lib.Dec.{T, eqb}
 use lib.ListN.{length, getD, take}
 use borrow.Author.Tests.{eqb-true}
 use Rattle.laws.proofs.Computed.{and-left, and-right, is-true, fails, holds}
 use Rattle.block_parity.specs.Parity.{even, allEven, odds}
-use Rattle.block_validity.specs.Block.{codeBits, remainder, Valid}
+use Rattle.block_validity.specs.Block.{remainder, Valid}
 use Rattle.block_validity.specs.Changed.{Near, same, changed}
 use Rattle.block_validity.specs.Units.{unit}
-use Rattle.block_validity.proofs.Powers.{code-length}
+use Rattle.block_validity.specs.Mending.{Mends}
 use Rattle.block_validity.proofs.Marks.{remainder-inj}
 use Rattle.block_validity.proofs.Validity.{valid-even, valid-remainder, valid-last, is-valid}
-use Rattle.block_validity.proofs.Odd.{Mends, mends-only, mends-where}
+use Rattle.block_validity.proofs.Odd.{mends-only, mends-where}
+use Rattle.block_validity.proofs.ParityBit.{leaves-nothing}
 use Rattle.block_reader.specs.declared.Verdict.the-variants.{Clean, Mended, Repeat}
-use Rattle.block_reader.specs.Judging.{mendable}
+use Rattle.block_reader.specs.Judging.{mendable, verdict}
 use Rattle.block_reader.specs.Claims.{Right}
 use Rattle.block_reader.specs.Quick.{theOddOne}
+use Rattle.block_reader.proofs.Verdicts.{is-right, right-is}
 
 -- ---- the byte that alone is odd
 
@@ -65,10 +69,6 @@ module _ (B : List ℕ) (l : length B ≡ 17) where
     only-there : (j : ℕ) → j < mendable → Mends j B → k ≡ j
     only-there j g m = remainder-inj k j h (omega (arith, g)) (p ∙ sym (m .pointed))
 
-    -- it is no mendable bit
-    pub not-mendable : mendable ≤ k → Right B Repeat
-    not-mendable g = repeated not-valid (λ j i m. omega (arith, g, i, only-there j i m))
-
     -- it does not lie in a byte that alone is odd
     pub elsewhere : theOddOne (odds (take 16 B)) (getD B (k / 8) 0) ≡ false → Right B Repeat
     elsewhere e =
@@ -79,12 +79,28 @@ module _ (B : List ℕ) (l : length B ≡ 17) where
         (subst⁻¹ (λ (n : ℕ). even (getD B (n / 8) 0) ≡ false) (only-there j i m) (m .inside)))))
 
     -- it does
-    pub mended : getD B 16 0 ≡ 0 → k < mendable → theOddOne (odds (take 16 B)) (getD B (k / 8) 0) ≡ true
-        → Right B (Mended k)
-    mended z g e =
+    pub mended : getD B 16 0 ≡ 0 → theOddOne (odds (take 16 B)) (getD B (k / 8) 0) ≡ true → Right B (Mended k)
+    mended z e =
         let o = the-one (odds (take 16 B)) (getD B (k / 8) 0) e in
-        (g, mends-where k B h l (record { validation = z; alone = o .0; inside = o .1; pointed = p }))
+        (h, mends-where k B h l (record { validation = z; alone = o .0; inside = o .1; pointed = p }))
 
--- the mendable bits are the code bits
-pub mendable-is : (B : List ℕ) → length B ≡ 17 → length (codeBits B) ≡ mendable
-mendable-is B l = code-length B l
+-- ---- so a bit is mended exactly where the remainder points to it and it lies in the one odd byte
+
+pub mended-where : (B : List ℕ) (k : ℕ) → length B ≡ 17 → k < mendable → verdict B ≡ Mended k ↔ Mends k B
+mended-where B k l h = (
+  λ e. mends-only k B h l (subst (Right B) e (is-right B) .1),
+  λ m. right-is B (Mended k) (h, mends-where k B h l m),
+)
+
+-- the parity bit of byte 16, where byte 16 is the odd one and the remainder is zero
+pub parity-mended-where : (B : List ℕ) → length B ≡ 17
+    → verdict B ≡ Mended 127
+    ↔ (getD B 16 0 ≡ 0) × (odds (take 16 B) ≡ 1) × (even (getD B 15 0) ≡ false) × (remainder B ≡ 0)
+parity-mended-where B l = (
+  λ e.
+      let m = mended-where B 127 l (omega arith) .0 e in
+      (m .validation, m .alone, m .inside, sym (m .pointed) ∙ leaves-nothing),
+  λ s.
+      mended-where B 127 l (omega arith) .1
+      (record { validation = s .0; alone = s .1; inside = s .2; pointed = leaves-nothing ∙ sym (s .3) }),
+)

@@ -191,6 +191,13 @@ even-not-mended W ks v p o k e =
     let r : Right (hits ks W) (Mended k) = subst (Right (hits ks W)) e (is-right (hits ks W)) in
     hit-odd (k ∷ ks) W (omega (arith, r .0), p) (omega arith) v (r .1)
 
+-- whatever was hit: a bit is mended exactly where the block with that bit changed is clean
+pub mended-clean : (B : List ℕ) (k : ℕ) → k < mendable → verdict B ≡ Mended k ↔ verdict (flip k B) ≡ Clean
+mended-clean B k h = (
+  λ e. right-is (flip k B) Clean (subst (Right B) e (is-right B) .1),
+  λ e. right-is B (Mended k) (h, subst (Right (flip k B)) e (is-right (flip k B))),
+)
+
 -- ---- the number is the paper's
 
 mends-some : (n k : ℕ) (B : List ℕ) → k < n → Valid (flip k B) → T (oneMends n B)

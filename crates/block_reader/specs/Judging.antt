@@ -11,9 +11,10 @@ use Rattle.block_validity.specs.Changed.{flip}
 use Rattle.block_reader.specs.declared.Verdict.{Verdict}
 use Rattle.block_reader.specs.declared.Verdict.the-variants.{Clean, Mended, Repeat, WrongLength}
 
--- how many bits, from the first in block order on, may be mended: "one of the 127 code bits"
+-- how many bits, from the first in block order on, may be mended: "'within one changed bit' is over 128 bits" (02,
+-- request 2), the 127 code bits and the parity bit of byte 16
 abbrev pub mendable : ℕ
-mendable = 127
+mendable = 128
 
 -- of the bits k, k + 1, .., n of them: the first whose change makes the block valid
 unfoldable pub tryFrom : ℕ → ℕ → List ℕ → Verdict
@@ -70,7 +71,7 @@ unfoldable pub oneMends : ℕ → List ℕ → Bool
 oneMends zero B = false
 oneMends (suc n) B = valid (flip n B) || oneMends n B
 
--- "block not 17", "no valid block within one code bit"
+-- "block not 17", and no valid block within one of the 128 bits (number 3, as request 2 has it)
 abbrev pub judgeConditions : List ℕ → Conditions
 judgeConditions B =
     record {

@@ -11,7 +11,7 @@ ghost use Rattle.block_reader.specs.Quick.{theOddOne};
 
 pub enum Verdict {
     Clean,
-    // The bit that was changed, 0 to 126 in block order.
+    // The bit that was changed, 0 to 127 in block order. 127 is the parity bit of byte 16.
     Mended(u8),
     Repeat,
     WrongLength,
@@ -29,7 +29,8 @@ fn is_the_odd_one(odd: usize, byte: u8) -> bool
 
 // A block judged in place, of any length: the verdict, and the block as it is left. One changed bit turns the
 // parity of its byte and leaves its own remainder, so it can be mended where one byte alone is odd and the
-// remainder points into it. Most blocks are clean: odd bytes are counted only where that is not yet settled.
+// remainder points into it. The parity bit of byte 16 leaves zero, and to it zero points. Most blocks are clean: odd
+// bytes are counted only where that is not yet settled.
 pub fn mend(block: &mut [u8]) -> Verdict
     ensures { λ r. ⌜ (told r ≡ judged (now (block .entry)))
         × (now (block .exit) ≡ left (now (block .entry))) ⌝ }
@@ -46,9 +47,6 @@ pub fn mend(block: &mut [u8]) -> Verdict
         return Verdict::Clean;
     }
     let k = block_places::place(r);
-    if 127 <= k {
-        return Verdict::Repeat;
-    }
     let odd = block_parity::odd_bytes(&block[..16]);
     let at = (k / 8) as usize;
     if !is_the_odd_one(odd, block[at]) {

@@ -6,3 +6,4 @@ pub mod Alone
 pub mod Alike
 pub mod Distance
 pub mod Odd
+pub mod ParityBit

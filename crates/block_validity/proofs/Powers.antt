@@ -77,7 +77,7 @@ divisible B = nothing-left (code-digits B)
 
 -- ---- the remainder of a sum
 
-code-sum : {A B C : List ℕ} → Sum A B C → Sum (codeBits A) (codeBits B) (codeBits C)
+pub code-sum : {A B C : List ℕ} → Sum A B C → Sum (codeBits A) (codeBits B) (codeBits C)
 unfolding codeBits
 code-sum {A} {B} {C} t =
     let a : ℕ = getD A 15 0 in

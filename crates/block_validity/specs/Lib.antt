@@ -1,3 +1,4 @@
 pub mod Block
 pub mod Changed
 pub mod Units
+pub mod Mending

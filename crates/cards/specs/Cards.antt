@@ -79,15 +79,15 @@ blockCards =
     ∷ made (zeros 14 ++ (64 ∷ [])) w2
     ∷ judged w3 (Mended 119) w2 (zeros 14 ++ (192 ∷ []))
     ∷ judged w4 (Mended 120) w1 (zeros 15)
-    ∷ judged w5 Repeat w5 []
+    ∷ judged w5 (Mended 127) w1 (zeros 15)
     ∷ judged w6 Repeat w6 []
     ∷ judged w7 Repeat w7 []
     ∷ judged w8 Repeat w8 []
     ∷ []
 
--- "W5 as first block", and the request 149, 192
+-- "W9 then starts from W6" (02, request 2): W6 as first block, and the request 149, 192
 abbrev pub w9 : List Event
-w9 = on ∷ map byte w5
+w9 = on ∷ map byte w6
 
 abbrev pub quiet : ℕ → List Sent
 quiet n = replicate n nothing

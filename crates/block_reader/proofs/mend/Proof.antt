@@ -17,7 +17,7 @@ use Rattle.block_validity.specs.Units.{unit}
 use Rattle.block_validity.proofs.Powers.{remainder-lt}
 use Rattle.block_reader.specs.declared.Verdict.the-variants.{Clean, Mended, Repeat, WrongLength}
 use Rattle.block_reader.proofs.Verdicts.{settled}
-use Rattle.block_reader.proofs.Mending.{not-zero, clean, not-mendable, elsewhere, mended}
+use Rattle.block_reader.proofs.Mending.{not-zero, clean, elsewhere, mended}
 use Rattle.block_reader.proofs.mend.Statement.{statement}
 use Rattle.block_reader.proofs.mend.Tie as tie
 
@@ -65,7 +65,7 @@ module _ (p : tie.After-place) where
 
 -- ---- and once the odd bytes are counted
 
-odd-is : (o : tie.After-odd-bytes) → o .odd-bytes .result ≡ odds (take 16 (place-was (o .before .before .before)))
+odd-is : (o : tie.After-odd-bytes) → o .odd-bytes .result ≡ odds (take 16 (place-was (o .before .before)))
 unfolding was place-was
 odd-is o = o .odd-bytes .ensures
 
@@ -106,20 +106,8 @@ returns-3 c =
     (clean (was a) (long a) (zero-last a) (holds (sym (even-is a) ∙ c .before .if3 .taken))
     (sym (remainder-is a) ∙ eqb-true (a .before .before .remainder .result) 0 (c .if4 .taken))) refl
 
-same-length-2 : tie.Need-same-length-2
-same-length-2 c = search needs
-
 place-requires : tie.Need-place-requires
 place-requires c κs = search needs
-
-returns-4 : tie.Need-returns-4
-unfolding was place-was
-returns-4 c =
-    let p = c .before in
-    let a = p .before .before in
-    settled (was a) Repeat
-    (not-mendable (was a) (long a) (not-clean (p .before)) (p .place .result) (p .place .ensures .0) (points p)
-    (c .if5 .taken)) refl
 
 slice-reshare-prefix-odd-bytes : tie.Need-slice-reshare-prefix-odd-bytes
 slice-reshare-prefix-odd-bytes c = search needs
@@ -127,8 +115,8 @@ slice-reshare-prefix-odd-bytes c = search needs
 slice-aggregate-odd-bytes : tie.Need-slice-aggregate-odd-bytes
 unfolding was place-was
 slice-aggregate-odd-bytes c =
-    let b : List ℕ = place-was (c .before .before) in
-    sym (length-take-le 16 b (omega (arith, long (c .before .before .before .before))))
+    let b : List ℕ = place-was (c .before) in
+    sym (length-take-le 16 b (omega (arith, long (c .before .before .before))))
 
 odd-bytes-requires : tie.Need-odd-bytes-requires
 odd-bytes-requires c κs = search needs
@@ -142,19 +130,19 @@ slice-read-is-the-odd-one c = search needs
 is-the-odd-one-requires : tie.Need-is-the-odd-one-requires
 is-the-odd-one-requires c κs = search needs
 
-same-length-3 : tie.Need-same-length-3
-same-length-3 c = search needs
+same-length-2 : tie.Need-same-length-2
+same-length-2 c = search needs
 
-returns-5 : tie.Need-returns-5
+returns-4 : tie.Need-returns-4
 unfolding was place-was
-returns-5 c =
+returns-4 c =
     let o = c .before .before .before in
-    let p = o .before .before .before in
+    let p = o .before .before in
     let a = p .before .before in
     settled (was a) Repeat
     (elsewhere (was a) (long a) (not-clean (p .before)) (p .place .result) (p .place .ensures .0) (points p)
     (simp (← odd-is o, ← c .before .is-the-odd-one .ensures)
-    (not-true (c .before .is-the-odd-one .result) (c .if6 .taken)))) refl
+    (not-true (c .before .is-the-odd-one .result) (c .if5 .taken)))) refl
 
 cast-flip : tie.Need-cast-flip
 cast-flip c = search needs
@@ -162,22 +150,21 @@ cast-flip c = search needs
 flip-requires : tie.Need-flip-requires
 flip-requires c κs = search needs
 
-same-length-4 : tie.Need-same-length-4
-same-length-4 c = search needs
+same-length-3 : tie.Need-same-length-3
+same-length-3 c = search needs
 
-returns-6 : tie.Need-returns-6
+returns-5 : tie.Need-returns-5
 unfolding was place-was
-returns-6 c =
+returns-5 c =
     let f = c .before .before in
     let e = f .before .before in
     let o = e .before .before .before in
-    let p = o .before .before .before in
+    let p = o .before .before in
     let a = p .before .before in
     settled (was a) (Mended (p .place .result))
     (mended (was a) (long a) (not-clean (p .before)) (p .place .result) (p .place .ensures .0) (points p) (zero-last a)
-    (o .before .before .if5 .left)
     (simp (← odd-is o, ← e .before .is-the-odd-one .ensures)
-    (not-false (e .before .is-the-odd-one .result) (e .if6 .left)))) (f .flip .ensures)
+    (not-false (e .before .is-the-odd-one .result) (e .if5 .left)))) (f .flip .ensures)
 
 pub mend-spec : {M : Type 1} → statement M
 mend-spec =
@@ -193,17 +180,15 @@ mend-spec =
     same-length
     returns-3
     place-requires
-    same-length-2
-    returns-4
     slice-reshare-prefix-odd-bytes
     slice-aggregate-odd-bytes
     odd-bytes-requires
     cast-at
     slice-read-is-the-odd-one
     is-the-odd-one-requires
-    same-length-3
-    returns-5
+    same-length-2
+    returns-4
     cast-flip
     flip-requires
-    same-length-4
-    returns-6)
+    same-length-3
+    returns-5)
