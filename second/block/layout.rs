@@ -12,8 +12,15 @@ pub const LENGTH: usize = 17;
 pub const BITS: usize = 8 * LENGTH;
 
 /// The first so many bits of a block are its code bits: bytes 1 to 15 whole,
-/// and byte 16 without its parity.
+/// and byte 16 without its parity. These are what is divided.
 pub const CODE_BITS: usize = DEGREE + 1;
+
+/// The parity bit of byte 16, which is no code bit.
+pub const PARITY_OF_16: usize = 8 * REMAINDER_PLACE + 7;
+
+/// The first so many bits of a block may be mended: the code bits and the parity
+/// bit of byte 16, which are bytes 1 to 16 whole.
+pub const MENDABLE_BITS: usize = PARITY_OF_16 + 1;
 
 /// Bits of the useful bytes, all of them code bits.
 const USEFUL_BITS: usize = 8 * USEFUL;

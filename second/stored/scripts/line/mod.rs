@@ -4,7 +4,7 @@ pub mod broken;
 pub mod lines;
 pub mod record;
 
-use crate::block::layout::{self, Block, CODE_BITS, LENGTH};
+use crate::block::layout::{self, Block, LENGTH, MENDABLE_BITS};
 use crate::line::receiver::{self, NUMBERS, SYN};
 use crate::stored::scripts::block::random_block;
 use crate::stored::scripts::script::Script;
@@ -32,8 +32,8 @@ pub const PHASES_AND_SEEN: [(usize, usize); 5] = [
     (IN_WAITING, 2),
 ];
 
-/// The card W5, a block wrong in the parity bit of byte 16 only.
-pub const W5: Block = [0, 0, 0, 0, 0, 0, 0, 0, 0, 0, 0, 0, 0, 0, 0, 128, 0];
+/// The card W6, a block wrong in byte 17 only, which is to be repeated.
+pub const W6: Block = [0, 0, 0, 0, 0, 0, 0, 0, 0, 0, 0, 0, 0, 0, 0, 0, 1];
 
 /// 1/6 without its parity, which is no synchronising code.
 const BARE_SYN: u8 = 22;
@@ -68,14 +68,14 @@ pub fn good_block() -> Block {
 /// W9 to W11, the numbers all the way round, and asking in each phase.
 pub fn cards() -> Script {
     let mut script = Script::trying("The bench cards W9 to W11, block numbers, and ask again.");
-    script.comment("W9: W5 as first block");
+    script.comment("W9: W6 as first block");
     script.line(ON);
-    bytes(&mut script, &W5);
+    bytes(&mut script, &W6);
     script.comment("W10: a third synchronising code does no harm");
     bytes(&mut script, &[150, 150, 150, 192]);
     script.comment("W9 again, then W11: the code of another number");
     script.line(ON);
-    bytes(&mut script, &W5);
+    bytes(&mut script, &W6);
     bytes(&mut script, &[150, 150, 65]);
     ask_in_each_phase(&mut script);
     values_of_every_kind(&mut script);
@@ -111,7 +111,7 @@ fn ask_in_each_phase(script: &mut Script) {
     script.line(NEW);
     script.line(ASK);
     script.line(ON);
-    for each in W5 {
+    for each in W6 {
         script.line(ASK);
         script.line(byte(each));
     }
@@ -152,7 +152,7 @@ fn numbers_all_the_way_round(script: &mut Script) {
             bytes(script, &receiver::resumption(number));
         }
         if count % 3 == 1 {
-            bytes(script, &layout::hit(block, random.below(CODE_BITS)));
+            bytes(script, &layout::hit(block, random.below(MENDABLE_BITS)));
         } else {
             bytes(script, &block);
         }
@@ -187,7 +187,7 @@ fn switching_while_waiting(script: &mut Script) {
                 "switched {what} while waiting, after synchronising codes: {seen}"
             ));
             script.line(ON);
-            bytes(script, &W5);
+            bytes(script, &W6);
             bytes(script, &vec![SYN; seen]);
             script.line(switch);
             // It would have ended the waiting; now it is a byte like others.
@@ -334,13 +334,13 @@ fn only_bytes_since_entering_count(script: &mut Script) {
     bytes(script, &[code, SYN, SYN, code]);
     script.comment("waiting entered anew, with codes seen when it was left by switching on");
     script.line(ON);
-    bytes(script, &W5);
+    bytes(script, &W6);
     bytes(script, &[SYN, SYN]);
     script.line(ON);
-    bytes(script, &W5);
+    bytes(script, &W6);
     bytes(script, &[code, SYN, code, SYN, SYN, code]);
     script.comment("a repeat of the repeat");
-    bytes(script, &W5);
+    bytes(script, &W6);
     bytes(script, &[code, SYN, SYN, code]);
     bytes(script, &good_block());
     script.comment("the codes while collecting are bytes of a block");
