@@ -26,7 +26,7 @@ pub const MENDABLE_BITS: usize = PARITY_OF_16 + 1;
 const USEFUL_BITS: usize = 8 * USEFUL;
 
 /// The place of byte 16.
-const REMAINDER_PLACE: usize = 15;
+pub const REMAINDER_PLACE: usize = 15;
 
 const PARITY_WEIGHT: u8 = 128;
 
@@ -42,7 +42,14 @@ pub fn form(values: &[u8]) -> Block {
     for (byte, &value) in block.iter_mut().zip(values) {
         *byte = with_parity(value);
     }
-    // Byte 16 is still zero here, as the division asks.
+    with_remainder(block)
+}
+
+/// The block with the byte 16 that its useful bytes ask for, whatever their
+/// parity.
+pub fn with_remainder(mut block: Block) -> Block {
+    // What is divided has a zero there.
+    block[REMAINDER_PLACE] = 0;
     block[REMAINDER_PLACE] = with_parity(remainder_value(&block));
     block
 }

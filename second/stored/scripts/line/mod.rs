@@ -4,7 +4,7 @@ pub mod broken;
 pub mod lines;
 pub mod record;
 
-use crate::block::layout::{self, Block, LENGTH, MENDABLE_BITS};
+use crate::block::layout::{self, Block, LENGTH, MENDABLE_BITS, PARITY_OF_16};
 use crate::line::receiver::{self, NUMBERS, SYN};
 use crate::stored::scripts::block::random_block;
 use crate::stored::scripts::script::Script;
@@ -12,6 +12,7 @@ use crate::stored::xorshift::Xorshift;
 use crate::trial::writing;
 
 const CARDS_SEED: u64 = 0x7278_2063_6172_6473;
+const WORN_SEED: u64 = 0x7278_2077_6f72_6e31;
 
 pub const NEW: &str = "rx new";
 pub const ON: &str = "rx on";
@@ -31,6 +32,9 @@ pub const PHASES_AND_SEEN: [(usize, usize); 5] = [
     (IN_WAITING, 1),
     (IN_WAITING, 2),
 ];
+
+/// The card W5, a block wrong in the parity bit of byte 16 only, which is mended.
+pub const W5: Block = [0, 0, 0, 0, 0, 0, 0, 0, 0, 0, 0, 0, 0, 0, 0, 128, 0];
 
 /// The card W6, a block wrong in byte 17 only, which is to be repeated.
 pub const W6: Block = [0, 0, 0, 0, 0, 0, 0, 0, 0, 0, 0, 0, 0, 0, 0, 0, 1];
@@ -65,9 +69,16 @@ pub fn good_block() -> Block {
     layout::form(b"Bonjour Minitel")
 }
 
-/// W9 to W11, the numbers all the way round, and asking in each phase.
+/// W5 and W9 to W11, asking in each phase, the numbers all the way round, and a
+/// worn contact.
 pub fn cards() -> Script {
-    let mut script = Script::trying("The bench cards W9 to W11, block numbers, and ask again.");
+    let mut script = Script::trying(
+        "The bench cards W5 and W9 to W11, ask again, block numbers, and a worn contact.",
+    );
+    script.comment("W5 as first block: mended, fifteen NUL pass, nothing to ask for");
+    script.line(ON);
+    bytes(&mut script, &W5);
+    script.line(ASK);
     script.comment("W9: W6 as first block");
     script.line(ON);
     bytes(&mut script, &W6);
@@ -80,6 +91,7 @@ pub fn cards() -> Script {
     ask_in_each_phase(&mut script);
     values_of_every_kind(&mut script);
     numbers_all_the_way_round(&mut script);
+    worn_contact(&mut script);
     script
 }
 
@@ -156,6 +168,33 @@ fn numbers_all_the_way_round(script: &mut Script) {
         } else {
             bytes(script, &block);
         }
+    }
+}
+
+/// The parity bit of byte 16 is upset in every block, which is mended; one more
+/// bit is too many.
+fn worn_contact(script: &mut Script) {
+    script.comment("a worn contact: forty blocks with the parity bit of byte 16 hit, all taken");
+    let mut random = Xorshift::new(WORN_SEED);
+    let mut worn_block = || layout::hit(random_block(&mut random), PARITY_OF_16);
+    script.line(ON);
+    for _ in 0..40 {
+        bytes(script, &worn_block());
+    }
+    script.line(ASK);
+    for (number, what, bit) in [
+        (8, "a useful byte", 77),
+        (9, "byte 16", 120),
+        (10, "byte 17", 128),
+    ] {
+        script.comment(&format!(
+            "one more bit hit, in {what}: asked for, and then taken"
+        ));
+        let block = worn_block();
+        bytes(script, &layout::hit(block, bit));
+        script.line(ASK);
+        bytes(script, &receiver::resumption(number));
+        bytes(script, &block);
     }
 }
 
