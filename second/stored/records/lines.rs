@@ -59,6 +59,13 @@ pub fn hits() -> Vec<u8> {
     record
 }
 
+/// The frost page over a worn contact, which upsets the parity bit of byte 16 in
+/// every block.
+pub fn worn() -> Vec<u8> {
+    let worn = |block| layout::hit(block, PARITY_OF_16);
+    blocks(&pages::frost()).into_iter().flat_map(worn).collect()
+}
+
 /// Block 2 is hit twice, two more are on the way, and the service goes back.
 pub fn repeat() -> Vec<u8> {
     let blocks = blocks(&pages::frost());
