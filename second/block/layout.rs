@@ -19,7 +19,7 @@ pub const CODE_BITS: usize = DEGREE + 1;
 pub const PARITY_OF_16: usize = 8 * REMAINDER_PLACE + 7;
 
 /// The first so many bits of a block may be mended: the code bits and the parity
-/// bit of byte 16, which are bytes 1 to 16 whole.
+/// bit of byte 16 (request 2 of 02), which are bytes 1 to 16 whole.
 pub const MENDABLE_BITS: usize = PARITY_OF_16 + 1;
 
 /// Bits of the useful bytes, all of them code bits.
