@@ -39,7 +39,7 @@ use stored::records::lines::{self, clean};
 use stored::records::pages::{self, many};
 
 /// First the records, then the values to be sent.
-const STORED: [Stored<Vec<u8>>; 25] = [
+const STORED: [Stored<Vec<u8>>; 26] = [
     ("frost", || clean(&pages::frost())),
     ("sets", || clean(&pages::sets())),
     ("colours", || clean(&pages::colours())),
@@ -48,6 +48,7 @@ const STORED: [Stored<Vec<u8>>; 25] = [
     ("row-0", || clean(&pages::row_0())),
     ("commands", || clean(&pages::commands())),
     ("hits", lines::hits),
+    ("worn", lines::worn),
     ("repeat", lines::repeat),
     ("repeat-of-a-repeat", lines::repeat_of_a_repeat),
     ("wrong-number", lines::wrong_number),

@@ -42,11 +42,12 @@ use stored::files::{self, Stored};
 use stored::scripts::{self, script::Script};
 
 /// Every stored script. A new family of commands adds its own here.
-const STORED: [Stored<Script>; 36] = [
+const STORED: [Stored<Script>; 37] = [
     ("cards", scripts::block::cards),
     ("making", scripts::block::making),
     ("lengths", scripts::block::lengths),
     ("every-byte", scripts::block::every_byte),
+    ("byte-16", scripts::block::byte_16::byte_16),
     ("hit-once", scripts::block::hit_once),
     ("hit-twice", scripts::block::hit_twice),
     ("damaged", scripts::block::damaged),

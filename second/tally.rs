@@ -19,7 +19,7 @@ use std::env;
 use std::process::ExitCode;
 
 use block::judge::{self, Judgement};
-use block::layout::{self, Block, BITS, CODE_BITS, LENGTH};
+use block::layout::{self, Block, BITS, LENGTH, MENDABLE_BITS};
 use block::polynomial;
 
 const SENT: Block = [0; LENGTH];
@@ -122,8 +122,8 @@ impl Syndromes {
         match self.bit_of.get(&sum) {
             _ if sum == 0 => counts.clean += 1,
             // A bit mended leaves the block as it was sent where it was the only one upset.
-            Some(&bit) if bit < CODE_BITS && upset == 1 => counts.back += 1,
-            Some(&bit) if bit < CODE_BITS => counts.other += 1,
+            Some(&bit) if bit < MENDABLE_BITS && upset == 1 => counts.back += 1,
+            Some(&bit) if bit < MENDABLE_BITS => counts.other += 1,
             _ => counts.refused += 1,
         }
         if counts.patterns.is_multiple_of(PIECE) {

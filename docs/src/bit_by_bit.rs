@@ -22,6 +22,9 @@ const GENERATOR: u8 = 0b1000_1001;
 /// How many code bits there are: 120 in bytes 1 to 15, and seven in byte 16.
 const CODE_BITS: u8 = 127;
 
+/// The parity bit of byte 16, which is no code bit and may be mended too.
+const PARITY_OF_16: u8 = 127;
+
 /// One bit brought down behind the remainder so far, and the generator taken away where power 7
 /// stands.
 fn bring_down(remainder: u8, bit: u8) -> u8 {
@@ -48,8 +51,12 @@ fn remainder(block: &[u8; BLOCK]) -> u8 {
     left
 }
 
-/// The code bit that leaves this where it alone is wrong: that of the power which leaves it.
+/// The bit that leaves this where it alone is wrong: the code bit of the power which leaves it, and
+/// the parity bit of byte 16 where nothing is left.
 fn place(left: u8) -> Option<u8> {
+    if left == 0 {
+        return Some(PARITY_OF_16);
+    }
     let mut alone = 1;
     for power in 0..CODE_BITS {
         if alone == left {

@@ -4,8 +4,14 @@ use crate::verdicts::{Verdict, BLOCK};
 
 pub const VALUES: usize = 15;
 
-/// How many bits of a block may be mended; as a place it is none of them.
-const MENDABLE: u8 = 127;
+/// How many code bits there are: 120 in bytes 1 to 15, and seven in byte 16.
+const CODE_BITS: u8 = 127;
+
+/// The parity bit of byte 16, which is no code bit and may be mended too.
+const PARITY_OF_16: u8 = 127;
+
+/// How many bits of a block may be mended: the first so many.
+pub const MENDABLE: u8 = 128;
 
 /// x^7 + x^3 + 1.
 const GENERATOR: u8 = 0b1000_1001;
@@ -48,14 +54,15 @@ const fn mirrored() -> [u8; 128] {
     table
 }
 
-/// The bit that leaves a remainder where it alone is wrong.
+/// The bit that leaves a remainder where it alone is wrong. Each code bit leaves one of its own; the
+/// parity bit of byte 16 leaves zero, since it is not divided.
 static PLACES: [u8; 128] = places();
 
 const fn places() -> [u8; 128] {
-    let mut table = [MENDABLE; 128];
+    let mut table = [PARITY_OF_16; 128];
     let mut remainder: u8 = 1;
     let mut power = 0;
-    while power < MENDABLE {
+    while power < CODE_BITS {
         // Powers 0 to 6 lie in byte 16, and the higher ones before it, the highest first.
         table[remainder as usize] = if power < 7 { 120 + power } else { 126 - power };
         remainder <<= 1;
@@ -106,7 +113,7 @@ pub fn judge(bytes: &mut [u8]) -> Verdict {
 #[cold]
 fn mend(block: &mut [u8; BLOCK], odd: u128, left: u8) -> Verdict {
     let place = PLACES[left as usize];
-    if place == MENDABLE || odd != 1 << (place / 8 * 8) {
+    if odd != 1 << (place / 8 * 8) {
         return Verdict::Repeat;
     }
     block[place as usize / 8] ^= 1 << (place % 8);

@@ -3,7 +3,7 @@
 
 use std::io::{Result, Write};
 
-use crate::judge::{make, with_parity, VALUES};
+use crate::judge::{make, with_parity, MENDABLE, VALUES};
 use crate::links::ESC;
 use crate::verdicts::BLOCK;
 
@@ -47,7 +47,7 @@ pub fn write_plain(out: &mut impl Write, chance: &mut Chance, blocks: usize) -> 
 }
 
 /// Such blocks one behind the other, upset as those of a night are: one in 200 at two bits, and of
-/// the others one in ten at one code bit.
+/// the others one in ten at one bit that may be mended.
 pub fn write_upset(out: &mut impl Write, chance: &mut Chance, blocks: usize) -> Result<()> {
     for _ in 0..blocks {
         let block = plain_block(chance);
@@ -99,10 +99,10 @@ fn hit_twice(chance: &mut Chance, block: [u8; BLOCK]) -> [u8; BLOCK] {
     hit(hit(block, first), second)
 }
 
-/// One block in ten has one of its 127 code bits upset.
+/// One block in ten has one bit upset that may be mended, the parity bit of byte 16 among these.
 fn hit_at_times(chance: &mut Chance, block: [u8; BLOCK]) -> [u8; BLOCK] {
     if chance.once_in(10) {
-        hit(block, chance.below(127))
+        hit(block, chance.below(MENDABLE.into()))
     } else {
         block
     }

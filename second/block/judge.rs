@@ -1,6 +1,6 @@
 //! The judging of blocks, by the definition: every neighbour is tried.
 
-use crate::block::layout::{self, Block, BITS, CODE_BITS, USEFUL};
+use crate::block::layout::{self, Block, BITS, MENDABLE_BITS, USEFUL};
 use crate::block::polynomial;
 
 pub enum Judgement {
@@ -20,7 +20,7 @@ pub fn judge(lent: &mut [u8]) -> (Judgement, &[u8]) {
         return (Judgement::Clean, &block[..USEFUL]);
     }
     match wrong_bit(block) {
-        Some(bit) if bit < CODE_BITS => {
+        Some(bit) if bit < MENDABLE_BITS => {
             *block = layout::hit(*block, bit);
             (Judgement::Mended, &block[..USEFUL])
         }

@@ -12,14 +12,21 @@ pub const LENGTH: usize = 17;
 pub const BITS: usize = 8 * LENGTH;
 
 /// The first so many bits of a block are its code bits: bytes 1 to 15 whole,
-/// and byte 16 without its parity.
+/// and byte 16 without its parity. These are what is divided.
 pub const CODE_BITS: usize = DEGREE + 1;
+
+/// The parity bit of byte 16, which is no code bit.
+pub const PARITY_OF_16: usize = 8 * REMAINDER_PLACE + 7;
+
+/// The first so many bits of a block may be mended: the code bits and the parity
+/// bit of byte 16 (request 2 of 02), which are bytes 1 to 16 whole.
+pub const MENDABLE_BITS: usize = PARITY_OF_16 + 1;
 
 /// Bits of the useful bytes, all of them code bits.
 const USEFUL_BITS: usize = 8 * USEFUL;
 
 /// The place of byte 16.
-const REMAINDER_PLACE: usize = 15;
+pub const REMAINDER_PLACE: usize = 15;
 
 const PARITY_WEIGHT: u8 = 128;
 
@@ -35,7 +42,14 @@ pub fn form(values: &[u8]) -> Block {
     for (byte, &value) in block.iter_mut().zip(values) {
         *byte = with_parity(value);
     }
-    // Byte 16 is still zero here, as the division asks.
+    with_remainder(block)
+}
+
+/// The block with the byte 16 that its useful bytes ask for, whatever their
+/// parity.
+pub fn with_remainder(mut block: Block) -> Block {
+    // What is divided has a zero there.
+    block[REMAINDER_PLACE] = 0;
     block[REMAINDER_PLACE] = with_parity(remainder_value(&block));
     block
 }

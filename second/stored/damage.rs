@@ -1,14 +1,14 @@
 //! What a bad line does to blocks, and to the codes that announce a repeat.
 
-use crate::block::layout::{self, Block, BITS, CODE_BITS, LENGTH};
+use crate::block::layout::{self, Block, BITS, CODE_BITS, LENGTH, PARITY_OF_16};
 use crate::line::receiver::{self, NUMBERS, SYN};
 use crate::stored::xorshift::Xorshift;
 
-/// The places of byte 16 and byte 17.
-const REMAINDER: usize = 15;
+/// The place of byte 17.
 const VALIDATION: usize = 16;
 
-/// The block as it comes through, and what has happened to it.
+/// The block as it comes through, and what has happened to it. One code bit is
+/// mended, and so is the parity bit of byte 16, which a worn contact upsets.
 pub fn block(random: &mut Xorshift, block: Block) -> (&'static str, Vec<u8>) {
     let mut bytes = block.to_vec();
     match random.below(34) {
@@ -23,8 +23,8 @@ pub fn block(random: &mut Xorshift, block: Block) -> (&'static str, Vec<u8>) {
             ("two bits hit", hit_twice.to_vec())
         }
         8 => {
-            bytes[REMAINDER] ^= 128;
-            ("the parity bit of byte 16 hit", bytes)
+            let worn = layout::hit(block, PARITY_OF_16);
+            ("the parity bit of byte 16 hit", worn.to_vec())
         }
         9 => {
             bytes[VALIDATION] ^= 1 << random.below(8);

@@ -1,6 +1,6 @@
 //! Stored records of the line: pages in blocks, and what can happen to these.
 
-use crate::block::layout::{self, Block, LENGTH, USEFUL};
+use crate::block::layout::{self, Block, LENGTH, PARITY_OF_16, USEFUL};
 use crate::line::receiver::{self, NUMBERS, SYN};
 use crate::stored::bad_line::BadLine;
 use crate::stored::records::pages;
@@ -24,11 +24,12 @@ fn blocks(page: &[u8]) -> Vec<Block> {
     page.chunks(USEFUL).map(layout::form).collect()
 }
 
-/// The frost page; hit blocks come again after a resumption.
+/// The frost page; blocks that cannot be mended come again after a resumption.
 pub fn hits() -> Vec<u8> {
     let blocks = blocks(&pages::frost());
-    // Useful bits, parity bits of useful bytes, bits of byte 16; then its parity
-    // bit, byte 17, two bits of one byte, two of two, and a burst.
+    // To be mended: useful bits, parity bits of useful bytes, bits of byte 16 and
+    // its parity bit. Then no bit; and to be repeated: byte 17, two bits of one
+    // byte, two of two, and a burst.
     let hits: [&[usize]; 12] = [
         &[37],
         &[0],
@@ -36,8 +37,8 @@ pub fn hits() -> Vec<u8> {
         &[119],
         &[120],
         &[126],
+        &[PARITY_OF_16],
         &[],
-        &[127],
         &[130],
         &[20, 21],
         &[6, 90],
@@ -50,12 +51,19 @@ pub fn hits() -> Vec<u8> {
             .iter()
             .fold(*block, |block, &bit| layout::hit(block, bit));
         record.extend(hit);
-        if count % hits.len() > 6 {
+        if count % hits.len() > 7 {
             record.extend(receiver::resumption(count as u8 % NUMBERS));
             record.extend(block);
         }
     }
     record
+}
+
+/// The frost page over a worn contact, which upsets the parity bit of byte 16 in
+/// every block.
+pub fn worn() -> Vec<u8> {
+    let worn = |block| layout::hit(block, PARITY_OF_16);
+    blocks(&pages::frost()).into_iter().flat_map(worn).collect()
 }
 
 /// Block 2 is hit twice, two more are on the way, and the service goes back.

@@ -1,5 +1,6 @@
 //! The stored scripts that try the commands on blocks.
 
+pub mod byte_16;
 pub mod lines;
 
 use crate::block::layout::{self, Block, BITS, LENGTH, USEFUL};

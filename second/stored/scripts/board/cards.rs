@@ -10,7 +10,7 @@ use crate::stored::scripts::board::{
     bytes, key, keys, last_byte, line, lines, lnk, rx, socket, sockets, ASK, DUMP, FRESH, OFF, ON,
     ROOM_FOR_A_BLOCK, TO_CONNECTED, TO_LOCAL,
 };
-use crate::stored::scripts::line::{good_block, IN_COLLECTING, IN_OFF, IN_WAITING, W5};
+use crate::stored::scripts::line::{good_block, IN_COLLECTING, IN_OFF, IN_WAITING, W5, W6};
 use crate::stored::scripts::links::{all_links, ask, link, no_links, UNFINISHED};
 use crate::stored::scripts::screen::sequences::OPENINGS;
 use crate::stored::scripts::script::Script;
@@ -38,15 +38,20 @@ pub fn cards() -> Script {
 }
 
 fn bench_cards(script: &mut Script) {
-    script.comment("W9: W5 as first block");
+    script.comment("W9: W6 as first block");
     script.line(ON);
-    bytes(script, &W5);
+    bytes(script, &W6);
     script.comment("W10: a third synchronising code does no harm");
     bytes(script, &[150, 150, 150, 192]);
     script.comment("W9 again, then W11: the code of another number");
     script.line(ON);
-    bytes(script, &W5);
+    bytes(script, &W6);
     bytes(script, &[150, 150, 65]);
+    script.comment("W5 as first block: mended, fifteen NUL to the socket, nothing to ask for");
+    script.line(TO_CONNECTED);
+    script.line(ON);
+    bytes(script, &W5);
+    script.line(ASK);
 }
 
 fn while_off(script: &mut Script) {

@@ -9,7 +9,7 @@ use crate::links::codes::SET;
 use crate::links::state::{Links, Table, KEYBOARD, MODEM, SCREEN, SOCKET};
 use crate::stored::bad_line::BadLine;
 use crate::stored::scripts::board::{key, lines, lnk, ASK, DUMP, FRESH, MOST_ROOM, OFF, ON};
-use crate::stored::scripts::line::{good_block, W5};
+use crate::stored::scripts::line::{good_block, W6};
 use crate::stored::scripts::links::{ask, link};
 use crate::stored::scripts::script::Script;
 use crate::stored::xorshift::Xorshift;
@@ -160,7 +160,7 @@ impl Pieces {
         for seen in 0..=2 {
             self.script.comment(&format!("waiting, codes seen: {seen}"));
             self.start(every_output());
-            self.take(&W5, [0, 0, 0, 2]);
+            self.take(&W6, [0, 0, 0, 2]);
             self.take(&vec![SYN; seen], [0; OUTPUTS]);
             self.script.line(ASK);
             self.refuse_and_take(&piece);

@@ -4,7 +4,7 @@ pub mod broken;
 pub mod lines;
 pub mod record;
 
-use crate::block::layout::{self, Block, CODE_BITS, LENGTH};
+use crate::block::layout::{self, Block, LENGTH, MENDABLE_BITS, PARITY_OF_16};
 use crate::line::receiver::{self, NUMBERS, SYN};
 use crate::stored::scripts::block::random_block;
 use crate::stored::scripts::script::Script;
@@ -12,6 +12,7 @@ use crate::stored::xorshift::Xorshift;
 use crate::trial::writing;
 
 const CARDS_SEED: u64 = 0x7278_2063_6172_6473;
+const WORN_SEED: u64 = 0x7278_2077_6f72_6e31;
 
 pub const NEW: &str = "rx new";
 pub const ON: &str = "rx on";
@@ -32,8 +33,11 @@ pub const PHASES_AND_SEEN: [(usize, usize); 5] = [
     (IN_WAITING, 2),
 ];
 
-/// The card W5, a block wrong in the parity bit of byte 16 only.
+/// The card W5, a block wrong in the parity bit of byte 16 only, which is mended.
 pub const W5: Block = [0, 0, 0, 0, 0, 0, 0, 0, 0, 0, 0, 0, 0, 0, 0, 128, 0];
+
+/// The card W6, a block wrong in byte 17 only, which is to be repeated.
+pub const W6: Block = [0, 0, 0, 0, 0, 0, 0, 0, 0, 0, 0, 0, 0, 0, 0, 0, 1];
 
 /// 1/6 without its parity, which is no synchronising code.
 const BARE_SYN: u8 = 22;
@@ -65,21 +69,29 @@ pub fn good_block() -> Block {
     layout::form(b"Bonjour Minitel")
 }
 
-/// W9 to W11, the numbers all the way round, and asking in each phase.
+/// W5 and W9 to W11, asking in each phase, the numbers all the way round, and a
+/// worn contact.
 pub fn cards() -> Script {
-    let mut script = Script::trying("The bench cards W9 to W11, block numbers, and ask again.");
-    script.comment("W9: W5 as first block");
+    let mut script = Script::trying(
+        "The bench cards W5 and W9 to W11, ask again, block numbers, and a worn contact.",
+    );
+    script.comment("W5 as first block: mended, fifteen NUL pass, nothing to ask for");
     script.line(ON);
     bytes(&mut script, &W5);
+    script.line(ASK);
+    script.comment("W9: W6 as first block");
+    script.line(ON);
+    bytes(&mut script, &W6);
     script.comment("W10: a third synchronising code does no harm");
     bytes(&mut script, &[150, 150, 150, 192]);
     script.comment("W9 again, then W11: the code of another number");
     script.line(ON);
-    bytes(&mut script, &W5);
+    bytes(&mut script, &W6);
     bytes(&mut script, &[150, 150, 65]);
     ask_in_each_phase(&mut script);
     values_of_every_kind(&mut script);
     numbers_all_the_way_round(&mut script);
+    worn_contact(&mut script);
     script
 }
 
@@ -111,7 +123,7 @@ fn ask_in_each_phase(script: &mut Script) {
     script.line(NEW);
     script.line(ASK);
     script.line(ON);
-    for each in W5 {
+    for each in W6 {
         script.line(ASK);
         script.line(byte(each));
     }
@@ -152,10 +164,37 @@ fn numbers_all_the_way_round(script: &mut Script) {
             bytes(script, &receiver::resumption(number));
         }
         if count % 3 == 1 {
-            bytes(script, &layout::hit(block, random.below(CODE_BITS)));
+            bytes(script, &layout::hit(block, random.below(MENDABLE_BITS)));
         } else {
             bytes(script, &block);
         }
+    }
+}
+
+/// The parity bit of byte 16 is upset in every block, which is mended; one more
+/// bit is too many.
+fn worn_contact(script: &mut Script) {
+    script.comment("a worn contact: forty blocks with the parity bit of byte 16 hit, all taken");
+    let mut random = Xorshift::new(WORN_SEED);
+    let mut worn_block = || layout::hit(random_block(&mut random), PARITY_OF_16);
+    script.line(ON);
+    for _ in 0..40 {
+        bytes(script, &worn_block());
+    }
+    script.line(ASK);
+    for (number, what, bit) in [
+        (8, "a useful byte", 77),
+        (9, "byte 16", 120),
+        (10, "byte 17", 128),
+    ] {
+        script.comment(&format!(
+            "one more bit hit, in {what}: asked for, and then taken"
+        ));
+        let block = worn_block();
+        bytes(script, &layout::hit(block, bit));
+        script.line(ASK);
+        bytes(script, &receiver::resumption(number));
+        bytes(script, &block);
     }
 }
 
@@ -187,7 +226,7 @@ fn switching_while_waiting(script: &mut Script) {
                 "switched {what} while waiting, after synchronising codes: {seen}"
             ));
             script.line(ON);
-            bytes(script, &W5);
+            bytes(script, &W6);
             bytes(script, &vec![SYN; seen]);
             script.line(switch);
             // It would have ended the waiting; now it is a byte like others.
@@ -334,13 +373,13 @@ fn only_bytes_since_entering_count(script: &mut Script) {
     bytes(script, &[code, SYN, SYN, code]);
     script.comment("waiting entered anew, with codes seen when it was left by switching on");
     script.line(ON);
-    bytes(script, &W5);
+    bytes(script, &W6);
     bytes(script, &[SYN, SYN]);
     script.line(ON);
-    bytes(script, &W5);
+    bytes(script, &W6);
     bytes(script, &[code, SYN, code, SYN, SYN, code]);
     script.comment("a repeat of the repeat");
-    bytes(script, &W5);
+    bytes(script, &W6);
     bytes(script, &[code, SYN, SYN, code]);
     bytes(script, &good_block());
     script.comment("the codes while collecting are bytes of a block");
