@@ -9,7 +9,7 @@ ghost use Prim.Native.Nat.{ℕ, _+_, _%_, _≤_, _<_};
 ghost use lib.ListN.{length, getD, set, take, replicate};
 ghost use Rattle.block_parity.specs.Parity.{even, odds};
 ghost use Rattle.block_validity.specs.Block.{codeBits, remainder, Valid, Bytes};
-ghost use Rattle.block_validity.specs.Changed.{turned, flip, hits, Places, Near, distance};
+ghost use Rattle.block_validity.specs.Changed.{turned, flip, hits, Places, NoneOf, Near, distance};
 ghost use Rattle.block_validity.specs.Mending.{Mends};
 ghost use Rattle.block_reader.specs.declared.Verdict.the-variants.{Clean, Mended, Repeat};
 ghost use Rattle.block_reader.specs.Judging.{verdict, judged, left, handed, mendable};
@@ -58,16 +58,17 @@ pub fn hit_twice_is_refused()
 {}
 
 // A valid block hit an odd number of times, at any of its 136 bits, is never clean; hit an even number of times it is
-// never mended. So three hits are mended or refused, and four are clean or refused; and whatever was hit, a bit is mended
-// exactly where the block with that bit changed is clean: three hits by a fourth exactly where all four are clean. That
-// is the best that can be said: every valid block has four such bits, and four with the parity bit of byte 16 among them.
+// never mended. So three hits are mended or refused, and four are clean or refused; and hits are mended by another bit
+// exactly where with that bit hit too they are clean: of four hits that are clean any three are mended by the fourth.
+// That is the best that can be said: every valid block has four such bits, and four with the parity bit of byte 16 among
+// them.
 pub fn odd_hits_are_never_clean_even_hits_never_mended()
     ensures odd { λ _. ⌜ ((W ks : List ℕ) → Valid W → Places ks → length ks % 2 ≡ 1
         → verdict (hits ks W) ≡ Clean → ⊥) ⌝ }
     ensures even { λ _. ⌜ ((W ks : List ℕ) → Valid W → Places ks → length ks % 2 ≡ 0
         → (k : ℕ) → verdict (hits ks W) ≡ Mended k → ⊥) ⌝ }
-    ensures fourth { λ _. ⌜ ((B : List ℕ) (k : ℕ) → k < mendable
-        → verdict B ≡ Mended k ↔ verdict (flip k B) ≡ Clean) ⌝ }
+    ensures fourth { λ _. ⌜ ((W ks : List ℕ) (k : ℕ) → Valid W → Places (k ∷ ks) → NoneOf k ks
+        → verdict (hits ks W) ≡ Mended k ↔ verdict (hits (k ∷ ks) W) ≡ Clean) ⌝ }
     ensures reached { λ _. ⌜ ((W : List ℕ) → Valid W → (verdict (hits (0 ∷ 1 ∷ 90 ∷ []) W) ≡ Mended 94)
         × (verdict (hits (94 ∷ 0 ∷ 1 ∷ 90 ∷ []) W) ≡ Clean)
         × (verdict (hits (0 ∷ 3 ∷ 123 ∷ []) W) ≡ Mended 127)

@@ -137,7 +137,7 @@ const PLACES: [u8; 128] = [
 ];
 
 // The bit that a remainder points to; of a byte above 127 the seven low bits count. Zero points to the parity bit
-// of byte 16, which is no code bit.
+// of byte 16: it is no code bit, so that alone it leaves nothing.
 pub fn place(r: u8) -> u8
     ensures { λ k. ⌜ (k < 128) × (remainderOf (unit k) ≡ r % 128) ⌝ }
 {

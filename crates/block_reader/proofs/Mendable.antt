@@ -9,7 +9,7 @@ use borrow.Author.Tests.{ltb-true, ltb-false}
 use Rattle.block_validity.specs.Block.{codeBits, Valid}
 use Rattle.block_validity.specs.Changed.{flip, Near, same, changed}
 use Rattle.block_validity.proofs.Powers.{code-length}
-use Rattle.block_validity.proofs.Odd.{last-never-mends}
+use Rattle.block_validity.proofs.LastByte.{last-never-mends}
 use Rattle.block_reader.specs.Judging.{mendable}
 
 -- one bit more than there are code bits

@@ -27,7 +27,7 @@ pub valid-mark : (B : List ℕ) → Valid B → mark B ≡ 0
 unfolding mark
 valid-mark B v = ap₂ (λ (x y : ℕ). x * 128 + y) (valid-last B v) (valid-remainder B v)
 
-seventeen : (B : List ℕ) → length B ≡ 17 → B ≡ take 16 B ++ (getD B 16 0 ∷ [])
+pub seventeen : (B : List ℕ) → length B ≡ 17 → B ≡ take 16 B ++ (getD B 16 0 ∷ [])
 seventeen B e = sym (take-all 17 B (omega arith)) ∙ take-suc B 16 0 (omega arith)
 
 last-ones : ones (bits (0 ∷ [])) ≡ 0

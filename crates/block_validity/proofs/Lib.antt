@@ -7,3 +7,4 @@ pub mod Alike
 pub mod Distance
 pub mod Odd
 pub mod ParityBit
+pub mod LastByte

@@ -1,19 +1,18 @@
--- Which bit mends a block: of the first 128 exactly the one that lies in the one odd byte and to which the remainder
--- points, where byte 17 is zero; and no bit of byte 17 does there. Assumes nothing.
+-- Of its first 128 bits the one that mends a block is exactly that which lies in the one odd byte and to which the
+-- remainder points, where byte 17 is zero. Assumes nothing.
 use mathlib.Core.Path.{_≡_, refl, sym, ap, ap₂, _∙_}
 use mathlib.Core.Bool.{Bool, true, false, cond, _&&_, not}
 use mathlib.Core.List.{List, [], _∷_}
-use Prim.Native.Nat.{ℕ, zero, suc, _+_, _/_, _%_, _^_, _-_, _≤_, _<_}
+use Prim.Native.Nat.{ℕ, zero, suc, _+_, _/_, _%_, _^_, _<_}
 use native.Mathlib.Nat.{not-suc-le-zero, le-of-suc-le-suc, add-mod}
 use native.Mathlib.Omega.{arith}
-use lib.Dec.{T, eqb, ltb, eqb→eq, ltb→lt}
+use lib.Dec.{T, eqb, eqb→eq}
 use lib.ListN.{length, getD, take, set}
 use lib.Seq.{take-set-lt, getD-take, length-take-le, getD-set-other}
 use lib.Bits.{bitXor, xor-self}
 use borrow.Author.Tests.{eqb-true, eqb-false}
 use Rattle.laws.proofs.Computed.{at, below}
 use Rattle.laws.proofs.Xor.{xor-zero-eq}
-use Rattle.laws.proofs.Sums.{sum-at}
 use Rattle.block_division.specs.Division.{lowBits}
 use Rattle.block_division.proofs.Bytes.{low-digits}
 use Rattle.block_division.proofs.Linear.{low-sum}
@@ -148,23 +147,3 @@ module _ (k : ℕ) (B : List ℕ) (h : k < 128) (e : length B ≡ 17) where
       = sym (ap (λ (t : Bool). odds (take 16 (flip k B)) + cond t 0 2) (m .inside)) ∙ odds-flip in
       is-valid (flip k B) (flip-length k B ∙ e) (all-even (take 16 (flip k B)) (omega (arith, m .alone, q)))
       (remainder-flip ∙ ap (bitXor (remainder B)) (m .pointed) ∙ xor-self (remainder B)) (last-kept ∙ m .validation)
-
--- ---- byte 17
-
-marked : ℕ → Bool
-marked i = ltb 0 (getD (unit (128 + i)) 16 0)
-
-all-marked : T (below marked 8)
-unfolding marked
-all-marked = tt
-
-pub last-never-mends : (k : ℕ) (B : List ℕ) → 128 ≤ k → k < 136 → length B ≡ 17 → getD B 16 0 ≡ 0 → Valid (flip k B) → ⊥
-unfolding marked
-last-never-mends k B g h e z v =
-    let i : ℕ = k - 128 in
-    let p : 128 + i ≡ k = omega (arith, g) in
-    let none : getD B 16 0 ≡ getD (unit k) 16 0
-    = xor-zero-eq (getD B 16 0) (getD (unit k) 16 0) (sym (sum-at 16 (flip-sum k B e)) ∙ valid-last (flip k B) v) in
-    let some : 0 < getD (unit (128 + i)) 16 0
-    = ltb→lt 0 (getD (unit (128 + i)) 16 0) (at marked 8 all-marked i (omega (arith, h))) in
-    omega (arith, some, ap (λ (n : ℕ). getD (unit n) 16 0) p, none, z)

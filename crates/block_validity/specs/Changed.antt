@@ -1,6 +1,7 @@
 -- Changed bits. A bit's place counts from 0 in block order: byte 1 first, and weight 1 first in each byte. Assumes
 -- nothing.
 use Prim.Native.Nat.{ℕ, suc, _/_, _%_, _^_, _<_}
+use mathlib.Core.Path.{_≡_}
 use mathlib.Core.Bool.{cond}
 use mathlib.Core.List.{List, [], _∷_}
 use lib.Dec.{eqb}
@@ -25,6 +26,11 @@ hits (k ∷ ks) B = flip k (hits ks B)
 abbrev pub Places : List ℕ → Type 0
 Places [] = Unit {0}
 Places (k ∷ ks) = (k < 136) × Places ks
+
+-- k is none of these places
+abbrev pub NoneOf : ℕ → List ℕ → Type 0
+NoneOf k [] = Unit {0}
+NoneOf k (j ∷ js) = (k ≡ j → ⊥) × NoneOf k js
 
 -- C is B, or B with one of its first n bits changed
 pub data Near (n : ℕ) (B : List ℕ) : List ℕ → Type 0 where

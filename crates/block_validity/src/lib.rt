@@ -1,11 +1,12 @@
 // When seventeen bytes are a valid block, and how far valid blocks lie apart (01, "The block"; 001, section 5-1).
 //
 // specs/Block and specs/Changed are the words: the code bits and their remainder, validity, changed bits, the distance
-// of two blocks. proofs/ has the laws of the code, over all 136 bits: changing bit k changes the bit in place k and no
-// other (Flips), the remainder is zero exactly where the generator divides (Powers), no two valid blocks are less than
-// four bits apart (Alone, Distance), hits do the same to every valid block (Alike), and which bit can mend a block
-// (Odd). The functions are the leaves that the maker and the reader of blocks (crate block) are built of. Each takes
-// any bytes.
+// of two blocks; specs/Mending is where the change of one bit makes a block valid. proofs/ has the laws of the code, over
+// all 136 bits: changing bit k changes the bit in place k and no other (Flips), the remainder is zero exactly where the
+// generator divides (Powers), no two valid blocks are less than four bits apart (Alone, Distance), hits do the same to
+// every valid block (Alike), which bit can mend a block (Odd) and which cannot (LastByte), and that the parity bit of
+// byte 16 is bit 127 and no code bit (ParityBit). The functions are the leaves that the maker and the reader of blocks
+// (crate block) are built of. Each takes any bytes.
 ghost use mathlib.Core.Path.{_≡_};
 ghost use Rattle.block_validity.specs.Block.{remainder as remainderOf};
 ghost use Rattle.block_validity.specs.Changed.{flip as flipped};
