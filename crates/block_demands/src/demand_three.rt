@@ -10,7 +10,7 @@ ghost use lib.ListN.{length, getD, set, take, replicate};
 ghost use Rattle.block_parity.specs.Parity.{even, odds};
 ghost use Rattle.block_validity.specs.Block.{codeBits, remainder, Valid, Bytes};
 ghost use Rattle.block_validity.specs.Changed.{turned, flip, hits, Places, NoneOf, Near, distance};
-ghost use Rattle.block_validity.specs.Mending.{Mends};
+ghost use Rattle.block_validity.specs.Mending.{PointsTo, Mends};
 ghost use Rattle.block_reader.specs.declared.Verdict.the-variants.{Clean, Mended, Repeat};
 ghost use Rattle.block_reader.specs.Judging.{verdict, judged, left, handed, mendable};
 ghost use Rattle.block_reader.specs.Claims.{NoneNear, OnlyNear};
@@ -33,11 +33,13 @@ pub fn the_mendable_bits_are_the_code_bits_and_the_parity_bit_of_byte_16()
         → Near 136 B C → Valid C → Near mendable B C) ⌝ }
 {}
 
-// The short way, by which the judge finds its bit: a mendable bit is mended exactly where byte 17 is zero, one of bytes
-// 1 to 16 alone is odd, the bit lies in it, and the remainder is what the bit alone leaves. The parity bit of byte 16
-// leaves nothing: it is mended exactly where byte 16 is the odd one and the remainder is zero.
+// The short way, by which the judge finds its bit: a bit is mended exactly where byte 17 is zero, one of bytes 1 to 16
+// alone is odd, the bit lies in it, and the remainder points to the bit, being what that bit alone leaves; and it points
+// to one bit only. The parity bit of byte 16 leaves nothing: it is mended exactly where byte 16 is the odd one and the
+// remainder is zero.
 pub fn mended_where_the_remainder_points_into_the_one_odd_byte()
-    ensures { λ _. ⌜ ((B : List ℕ) (k : ℕ) → length B ≡ 17 → k < mendable → verdict B ≡ Mended k ↔ Mends k B) ⌝ }
+    ensures { λ _. ⌜ ((B : List ℕ) (k : ℕ) → length B ≡ 17 → verdict B ≡ Mended k ↔ Mends k B) ⌝ }
+    ensures one { λ _. ⌜ ((r j k : ℕ) → PointsTo r j → PointsTo r k → j ≡ k) ⌝ }
     ensures parity { λ _. ⌜ ((B : List ℕ) → length B ≡ 17 → verdict B ≡ Mended 127
         ↔ (getD B 16 0 ≡ 0) × (odds (take 16 B) ≡ 1) × (even (getD B 15 0) ≡ false) × (remainder B ≡ 0)) ⌝ }
 {}

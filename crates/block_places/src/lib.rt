@@ -1,9 +1,7 @@
-// The table from a remainder to the bit that it points to: the one of the first 128 that alone leaves it. Its rule
-// is proved once, over the whole table (proofs/Pointed).
-ghost use Prim.Native.Nat.{_%_, _<_};
-ghost use mathlib.Core.Path.{_≡_};
-ghost use Rattle.block_validity.specs.Block.{remainder as remainderOf};
-ghost use Rattle.block_validity.specs.Units.{unit};
+// The table from a remainder to the bit that it points to (001, section 5-3-4): the one of the first 128 that alone
+// leaves it. Its rule is proved once, over the whole table (proofs/Pointed).
+ghost use Prim.Native.Nat.{_%_};
+ghost use Rattle.block_validity.specs.Mending.{PointsTo};
 
 const PLACES: [u8; 128] = [
     127,
@@ -139,7 +137,7 @@ const PLACES: [u8; 128] = [
 // The bit that a remainder points to; of a byte above 127 the seven low bits count. Zero points to the parity bit
 // of byte 16: it is no code bit, so that alone it leaves nothing.
 pub fn place(r: u8) -> u8
-    ensures { λ k. ⌜ (k < 128) × (remainderOf (unit k) ≡ r % 128) ⌝ }
+    ensures { λ k. ⌜ PointsTo (r % 128) k ⌝ }
 {
     PLACES[(r % 128) as usize]
 }

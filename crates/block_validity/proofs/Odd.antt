@@ -1,5 +1,5 @@
 -- Of its first 128 bits the one that mends a block is exactly that which lies in the one odd byte and to which the
--- remainder points, where byte 17 is zero. Assumes nothing.
+-- remainder points, where byte 17 is zero; and a remainder points to one bit alone. Assumes nothing.
 use mathlib.Core.Path.{_≡_, refl, sym, ap, ap₂, _∙_}
 use mathlib.Core.Bool.{Bool, true, false, cond, _&&_, not}
 use mathlib.Core.List.{List, [], _∷_}
@@ -21,8 +21,9 @@ use Rattle.block_parity.proofs.Parities.{ones-sum}
 use Rattle.block_validity.specs.Block.{remainder, Valid}
 use Rattle.block_validity.specs.Changed.{flip}
 use Rattle.block_validity.specs.Units.{unit}
-use Rattle.block_validity.specs.Mending.{Mends}
+use Rattle.block_validity.specs.Mending.{PointsTo, Mends}
 use Rattle.block_validity.proofs.Powers.{remainder-sum}
+use Rattle.block_validity.proofs.Marks.{remainder-inj}
 use Rattle.block_validity.proofs.Flips.{flip-sum, flip-length}
 use Rattle.block_validity.proofs.Validity.{valid-even, valid-remainder, valid-last, is-valid}
 
@@ -95,6 +96,11 @@ odds-set (a ∷ A) (suc i) x h e = go (even a) (odds-set A i x (le-of-suc-le-suc
     go true p = p
     go false p = omega arith
 
+-- ---- a remainder
+
+pub one-bit : (r j k : ℕ) → PointsTo r j → PointsTo r k → j ≡ k
+one-bit r j k p q = remainder-inj j k (p .0) (q .0) (p .1 ∙ sym (q .1))
+
 -- ---- a block
 
 module _ (k : ℕ) (B : List ℕ) (h : k < 128) (e : length B ≡ 17) where
@@ -138,7 +144,7 @@ module _ (k : ℕ) (B : List ℕ) (h : k < 128) (e : length B ≡ 17) where
             validation = sym last-kept ∙ valid-last (flip k B) v;
             alone = omega (arith, none, q);
             inside = p;
-            pointed = none-left;
+            pointed = (h, none-left);
           }
 
   pub mends-where : Mends k B → Valid (flip k B)
@@ -146,4 +152,4 @@ module _ (k : ℕ) (B : List ℕ) (h : k < 128) (e : length B ≡ 17) where
       let q : odds (take 16 (flip k B)) + 2 ≡ odds (take 16 B) + 1
       = sym (ap (λ (t : Bool). odds (take 16 (flip k B)) + cond t 0 2) (m .inside)) ∙ odds-flip in
       is-valid (flip k B) (flip-length k B ∙ e) (all-even (take 16 (flip k B)) (omega (arith, m .alone, q)))
-      (remainder-flip ∙ ap (bitXor (remainder B)) (m .pointed) ∙ xor-self (remainder B)) (last-kept ∙ m .validation)
+      (remainder-flip ∙ ap (bitXor (remainder B)) (m .pointed .1) ∙ xor-self (remainder B)) (last-kept ∙ m .validation)

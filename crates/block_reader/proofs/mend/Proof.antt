@@ -13,7 +13,7 @@ use borrow.Author.Tests.{eqb-true, eqb-false, not-true, not-false}
 use Rattle.laws.proofs.Computed.{fails, holds}
 use Rattle.block_parity.specs.Parity.{allEven, odds}
 use Rattle.block_validity.specs.Block.{remainder}
-use Rattle.block_validity.specs.Units.{unit}
+use Rattle.block_validity.specs.Mending.{PointsTo}
 use Rattle.block_validity.proofs.Powers.{remainder-lt}
 use Rattle.block_reader.specs.declared.Verdict.the-variants.{Clean, Mended, Repeat, WrongLength}
 use Rattle.block_reader.proofs.Verdicts.{settled}
@@ -57,11 +57,13 @@ module _ (p : tie.After-place) where
   place-was : List ℕ
   place-was = was (p .before .before)
 
-  points : remainder (unit (p .place .result)) ≡ remainder place-was
+  points : PointsTo (remainder place-was) (p .place .result)
   unfolding place-was
   points =
       let a = p .before .before in
-      p .place .ensures .1 ∙ ap (λ (x : ℕ). x % 128) (remainder-is a) ∙ mod-eq-of-lt (remainder-lt (was a))
+      let e : a .before .before .remainder .result % 128 ≡ remainder (was a)
+      = ap (λ (x : ℕ). x % 128) (remainder-is a) ∙ mod-eq-of-lt (remainder-lt (was a)) in
+      (p .place .ensures .0, p .place .ensures .1 ∙ e)
 
 -- ---- and once the odd bytes are counted
 
@@ -140,7 +142,7 @@ returns-4 c =
     let p = o .before .before in
     let a = p .before .before in
     settled (was a) Repeat
-    (elsewhere (was a) (long a) (not-clean (p .before)) (p .place .result) (p .place .ensures .0) (points p)
+    (elsewhere (was a) (long a) (not-clean (p .before)) (p .place .result) (points p)
     (simp (← odd-is o, ← c .before .is-the-odd-one .ensures)
     (not-true (c .before .is-the-odd-one .result) (c .if5 .taken)))) refl
 
@@ -162,7 +164,7 @@ returns-5 c =
     let p = o .before .before in
     let a = p .before .before in
     settled (was a) (Mended (p .place .result))
-    (mended (was a) (long a) (not-clean (p .before)) (p .place .result) (p .place .ensures .0) (points p) (zero-last a)
+    (mended (was a) (long a) (not-clean (p .before)) (p .place .result) (points p) (zero-last a)
     (simp (← odd-is o, ← e .before .is-the-odd-one .ensures)
     (not-false (e .before .is-the-odd-one .result) (e .if5 .left)))) (f .flip .ensures)
 
