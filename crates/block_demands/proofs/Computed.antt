@@ -11,7 +11,8 @@ use Rattle.block_validity.specs.Block.{codeBits, remainder, valid, Valid}
 use Rattle.block_validity.specs.Changed.{flip, hits, Places, NoneOf, differences, distance}
 use Rattle.block_reader.specs.declared.Verdict.the-variants.{Clean, Mended}
 use Rattle.block_reader.specs.Judging.{verdict}
-use Rattle.block_reader.proofs.Verdicts.{right-is, mended-by-one-more}
+use Rattle.block_reader.proofs.Verdicts.{right-is}
+use Rattle.block_reader.proofs.Mendable.{mended-by-one-more}
 use Rattle.block_reader.proofs.AsZeros.{same-verdict}
 
 pub four-off :

@@ -8,17 +8,16 @@ use mathlib.Core.Logic.{_⊎_, ⊎-elim, _↔_}
 use Prim.Native.Nat.{ℕ, zero, suc, _+_, _%_, _≤_, _<_}
 use native.Mathlib.Nat.{eq-or-lt-of-le}
 use native.Mathlib.Omega.{arith}
-use lib.Dec.{T, eqb, ltb}
+use lib.Dec.{T, eqb}
 use lib.ListN.{length}
-use borrow.Author.Tests.{eqb-true, eqb-false, ltb-true, ltb-false, eq-eqb, ne-eqb}
+use borrow.Author.Tests.{eqb-true, eqb-false, eq-eqb, ne-eqb}
 use Rattle.laws.proofs.Computed.{holds, fails, is-true}
 use Rattle.numbers.specs.Numbers.{numberOf}
 use Rattle.block_validity.specs.Block.{valid, Valid}
-use Rattle.block_validity.specs.Changed.{flip, hits, Places, NoneOf, Near, same, changed}
+use Rattle.block_validity.specs.Changed.{flip, hits, Places, Near, same, changed}
 use Rattle.block_validity.proofs.Flips.{flip-length, flip-flip}
 use Rattle.block_validity.proofs.Validity.{valid-length}
 use Rattle.block_validity.proofs.Alone.{flipped-length, hit-once, hit-twice, hit-thrice, hit-odd, one-place}
-use Rattle.block_validity.proofs.LastByte.{hit-last}
 use Rattle.block_reader.specs.declared.Verdict.{Verdict}
 use Rattle.block_reader.specs.declared.Verdict.the-variants.{Clean, Mended, Repeat, WrongLength}
 use Rattle.block_reader.specs.Judging.{mendable, tryFrom, verdict, told, judged, leftBy, left}
@@ -191,23 +190,6 @@ unfolding hits
 even-not-mended W ks v p o k e =
     let r : Right (hits ks W) (Mended k) = subst (Right (hits ks W)) e (is-right (hits ks W)) in
     hit-odd (k ∷ ks) W (omega (arith, r .0), p) (omega arith) v (r .1)
-
--- and hits are mended by another bit exactly where with that bit hit too they are clean
-pub mended-by-one-more : (W ks : List ℕ) (k : ℕ) → Valid W → Places (k ∷ ks) → NoneOf k ks
-    → verdict (hits ks W) ≡ Mended k ↔ verdict (hits (k ∷ ks) W) ≡ Clean
-unfolding hits
-mended-by-one-more W ks k v p n = (
-  λ e. right-is (flip k B) Clean (subst (Right B) e (is-right B) .1),
-  λ e. let u = subst (Right (flip k B)) e (is-right (flip k B)) in right-is B (Mended k) (among u (ltb k mendable) refl, u),
-)
-  where
-    B : List ℕ
-    B = hits ks W
-
-    -- it is none of byte 17
-    among : Valid (flip k B) → (t : Bool) → ltb k mendable ≡ t → k < mendable
-    among u true e = ltb-true k mendable e
-    among u false e = absurd (hit-last k ks W (ltb-false k mendable e) p n v u)
 
 -- ---- the number is the paper's
 

@@ -17,7 +17,7 @@ use Rattle.block_parity.proofs.Parities.{ones-sum, ones-append, even-ones}
 use Rattle.block_validity.specs.Block.{Valid}
 use Rattle.block_validity.specs.Changed.{flip, hits, Places}
 use Rattle.block_validity.specs.Units.{unit}
-use Rattle.block_validity.proofs.Flips.{flip-sum, flip-length}
+use Rattle.block_validity.proofs.Flips.{flip-sum, flip-length, hits-length}
 use Rattle.block_validity.proofs.Marks.{mark, mark-sum, mark-inj, unit-odd}
 use Rattle.block_validity.proofs.Validity.{valid-length, valid-even, valid-remainder, valid-last}
 
@@ -66,17 +66,16 @@ mend-mark k B v =
 
 -- each hit turns the parity of all bits
 hits-ones : (ks B : List ℕ) → Places ks → length B ≡ 17
-    → (length (hits ks B) ≡ 17) × (ones (bits (hits ks B)) % 2 ≡ (ones (bits B) + length ks) % 2)
+    → ones (bits (hits ks B)) % 2 ≡ (ones (bits B) + length ks) % 2
 unfolding hits
-hits-ones [] B p e = (e, omega arith)
+hits-ones [] B p e = omega arith
 hits-ones (k ∷ ks) B p e =
     let m = hits-ones ks B (p .1) e in
-    let o = flip-ones k (hits ks B) (p .0) (m .0) in
-    (flip-length k (hits ks B) ∙ m .0, omega arith)
+    let o = flip-ones k (hits ks B) (p .0) (hits-length ks B ∙ e) in omega arith
 
 -- a valid block hit an odd number of times is not valid
 pub hit-odd : (ks B : List ℕ) → Places ks → length ks % 2 ≡ 1 → Valid B → Valid (hits ks B) → ⊥
-hit-odd ks B p o v w = omega (arith, hits-ones ks B p (valid-length B v) .1, valid-ones B v, valid-ones (hits ks B) w)
+hit-odd ks B p o v w = omega (arith, hits-ones ks B p (valid-length B v), valid-ones B v, valid-ones (hits ks B) w)
 
 pub hit-once : (k : ℕ) (B : List ℕ) → k < 136 → Valid B → Valid (flip k B) → ⊥
 unfolding hits

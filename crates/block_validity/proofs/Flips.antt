@@ -18,14 +18,19 @@ use Rattle.block_division.specs.Division.{lowBits, bits}
 use Rattle.block_division.proofs.Bytes.{bits-digits, digit-at, bits-length}
 use Rattle.block_division.proofs.Linear.{bits-sum}
 use Rattle.block_validity.specs.Block.{Bytes}
-use Rattle.block_validity.specs.Changed.{flip}
+use Rattle.block_validity.specs.Changed.{flip, hits}
 use Rattle.block_validity.specs.Units.{unit}
 
 pub flip-length : (k : ℕ) (B : List ℕ) → length (flip k B) ≡ length B
 unfolding flip
 flip-length k B = length-set B (k / 8) (bitXor (getD B (k / 8) 0) (2 ^ (k % 8)))
 
--- it is the sum of the block and the bit alone
+pub hits-length : (ks B : List ℕ) → length (hits ks B) ≡ length B
+unfolding hits
+hits-length [] B = refl
+hits-length (k ∷ ks) B = flip-length k (hits ks B) ∙ hits-length ks B
+
+-- a block with one bit changed is the sum of the block and the bit alone
 pub flip-sum : (k : ℕ) (B : List ℕ) → length B ≡ 17 → Sum B (unit k) (flip k B)
 unfolding flip
 flip-sum k B e =

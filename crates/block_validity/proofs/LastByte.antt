@@ -10,7 +10,7 @@ use Rattle.block_division.specs.Division.{lowBits, bits}
 use Rattle.block_division.proofs.Bytes.{bits-append, bits-length}
 use Rattle.block_validity.specs.Block.{Valid}
 use Rattle.block_validity.specs.Changed.{flip, hits, Places, NoneOf}
-use Rattle.block_validity.proofs.Flips.{flip-length, flip-bits}
+use Rattle.block_validity.proofs.Flips.{hits-length, flip-bits}
 use Rattle.block_validity.proofs.Validity.{valid-length, valid-last}
 use Rattle.block_validity.proofs.Alone.{seventeen, flipped-length}
 
@@ -26,11 +26,6 @@ other-bit : (k j : ℕ) (B : List ℕ) → j < 136 → length B ≡ 17 → (k �
 other-bit k j B h e ne =
     ap (λ (l : List ℕ). getD l k 0) (flip-bits j B h e)
     ∙ getD-set-other (bits B) j k (1 - getD (bits B) j 0) 0 ne
-
-hits-length : (ks B : List ℕ) → length (hits ks B) ≡ length B
-unfolding hits
-hits-length [] B = refl
-hits-length (k ∷ ks) B = flip-length k (hits ks B) ∙ hits-length ks B
 
 untouched : (k : ℕ) (ks B : List ℕ) → Places ks → NoneOf k ks → length B ≡ 17
     → getD (bits (hits ks B)) k 0 ≡ getD (bits B) k 0
