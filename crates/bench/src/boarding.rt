@@ -11,7 +11,7 @@ use lent::first;
 const ROOM: usize = 5 * (4096 + 16);
 
 // A board, and how many bytes it has handed out.
-#[derive(Drop)]
+#[derive(Clone, Copy)]
 struct Play {
     board: Board,
     keyboard: u64,

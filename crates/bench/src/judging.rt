@@ -3,7 +3,7 @@ use crate::portions::PORTION;
 use crate::texts::{put, put_bytes, put_number, sum};
 use block_reader::Verdict;
 
-#[derive(Drop)]
+#[derive(Clone, Copy)]
 pub(crate) struct Counts {
     clean: u64,
     mended: u64,

@@ -7,7 +7,7 @@ use lent::first;
 use links::Links;
 
 // Links, and how many bytes each module got.
-#[derive(Drop)]
+#[derive(Clone, Copy)]
 struct Handed {
     links: Links,
     screen: u64,
@@ -28,7 +28,7 @@ fn put_shares(shares: Shares) {
     put_outlet(b"socket ", shares.socket);
 }
 
-#[derive(Drop)]
+#[derive(Clone, Copy)]
 struct Fifteen {
     values: [u8; 15],
 }

@@ -14,6 +14,7 @@
 // pages.rt      the state of a screen as text
 // memory.rt     the peak memory of a process
 // texts.rt      texts and numbers on standard output
+#![tactic(auto)]
 mod boarding;
 mod judging;
 mod linking;

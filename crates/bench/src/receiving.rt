@@ -9,7 +9,7 @@ use line_receiver::{Judged, Receiver, Stepped};
 use line_turns::take_turn;
 
 // A receiver, what it judged, and how many bytes it handed out.
-#[derive(Drop)]
+#[derive(Clone, Copy)]
 struct Heard {
     receiver: Receiver,
     counts: Counts,

@@ -5,6 +5,7 @@
 // `check_bits` gives the seven check bits of some bytes, which is all that the maker and the reader of blocks ask of
 // this crate. It takes a byte in one step: the check bits so far are added to it, and a table has what that leaves
 // (specs/Table; why one entry is enough, proofs/Entering).
+#![tactic(auto)]
 ghost use Rattle.std.specs.Prelude.{◌≡◌};
 ghost use Rattle.block_division.specs.Division.{check_bits};
 ghost use Rattle.block_division.specs.Table.{mirrored};

@@ -1,6 +1,7 @@
 // Parity (01: "with parity"; 001, section 5-1-2): whether a byte has an even number of ones, whether all of some bytes
 // have, how many have not, and a value with parity. specs/Parity is the words; proofs/Parities has their laws: parity
 // adds up like the bits do, a value with parity is even, and without it is the value again.
+#![tactic(auto)]
 ghost use Rattle.std.specs.Prelude.{◌≡◌};
 ghost use Rattle.block_parity.specs.Parity.{even, all_even, odds, with_parity};
 

@@ -5,11 +5,12 @@
 // way round (no change, then each mendable bit in turn) and finds its bit the short way, by the remainder and the
 // one byte of odd parity. proofs/Verdicts is the one door by which any judge is shown to be right, and has demand
 // 3; proofs/AsZeros shows that hits are judged alike in every valid block.
+#![tactic(auto)]
 ghost use Rattle.std.specs.Prelude.{◌≡◌};
 ghost use Rattle.block_reader.specs.Judging.{judged, left, told};
 ghost use Rattle.block_reader.specs.Quick.{the_odd_one};
 
-#[derive(Drop)]
+#[derive(Clone, Copy)]
 pub enum Verdict {
     Clean,
     // The bit that was changed, 0 to 127 in block order. 127 is the parity bit of byte 16.

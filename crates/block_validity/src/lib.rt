@@ -7,6 +7,7 @@
 // every valid block (Alike), which bit can mend a block (Odd) and which cannot (LastByte), and that the parity bit of
 // byte 16 is bit 127 and no code bit (ParityBit). The functions are the leaves that the maker and the reader of blocks
 // (crate block) are built of. Each takes any bytes.
+#![tactic(auto)]
 ghost use Rattle.std.specs.Prelude.{◌≡◌};
 ghost use Rattle.block_validity.specs.Block.{remainder as remainderOf};
 ghost use Rattle.block_validity.specs.Changed.{flip as flipped};

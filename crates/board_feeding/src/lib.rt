@@ -5,6 +5,7 @@
 // seventy-five places always suffice for what a module gets. specs/Feeding says what that is; proofs/Suffices shows
 // that the places suffice. Most values are plain characters, which go along the links of the modem as they are: where all
 // are (plain.rt), the links are not asked for each (proofs/Passed).
+#![tactic(auto)]
 ghost use Rattle.std.specs.Prelude.{◌≡◌, ◌≤◌, ◌<◌, take};
 ghost use Rattle.links_sending.specs.Sending.{gets};
 ghost use Rattle.board_feeding.specs.Feeding.{appended, shares_of, gathered, nobody, fed, Enough};
@@ -17,14 +18,14 @@ pub use plain::are_plain;
 use plain::pass_all;
 
 // Up to seventy-five bytes: the first `count`. The places past them are 0.
-#[derive(Drop)]
+#[derive(Clone, Copy)]
 pub struct Outlet {
     pub codes: [u8; 75],
     pub count: usize,
 }
 
 // What each module gets.
-#[derive(Drop)]
+#[derive(Clone, Copy)]
 pub struct Shares {
     pub screen: Outlet,
     pub keyboard: Outlet,
@@ -33,7 +34,7 @@ pub struct Shares {
 }
 
 // The links after some values, and what each module got of them.
-#[derive(Drop)]
+#[derive(Clone, Copy)]
 pub struct Fed {
     pub links: Links,
     pub shares: Shares,

@@ -6,7 +6,7 @@ use crate::ample::is_ample;
 use crate::{Front, Heard, Room, hear};
 
 // What is left of the room behind a byte.
-#[derive(Drop)]
+#[derive(Clone, Copy)]
 pub(crate) enum Left {
     Enough(Room),
     Short,

@@ -4,6 +4,7 @@
 // bytes takes room in four outputs, and can be heard for that alone, where these are not so long that any bytes fit.
 // specs/LineBytes says what bytes come to, specs/Fitting what room that takes, specs/Ample which is surely enough;
 // proofs/Onwards shows what one byte more brings, proofs/Rooms when there is room, and proofs/Amply that there is.
+#![tactic(auto)]
 ghost use Rattle.std.specs.Prelude.{◌≡◌, ◌≤◌};
 ghost use Rattle.board_feeding.specs.Feeding.{Enough};
 ghost use Rattle.board_front.specs.LineBytes.{sent_on, heard_by};
@@ -16,14 +17,14 @@ pub use fitting::fits;
 use line_receiver::{Receiver, Stepped};
 use links::Links;
 
-#[derive(Drop)]
+#[derive(Clone, Copy)]
 pub struct Front {
     pub receiver: Receiver,
     pub links: Links,
 }
 
 // What comes of one byte.
-#[derive(Drop)]
+#[derive(Clone, Copy)]
 pub struct Heard {
     pub front: Front,
     pub shares: Shares,
@@ -32,7 +33,7 @@ pub struct Heard {
 }
 
 // Bytes for each output: those that there is room for, or those written.
-#[derive(Drop)]
+#[derive(Clone, Copy)]
 pub struct Room {
     pub keyboard: usize,
     pub modem: usize,

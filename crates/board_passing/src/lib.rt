@@ -3,6 +3,7 @@
 // Each output takes as much as fits: who hands it in sees to its room (`fits` of the crate `board_front`). Plain values
 // go to each module that the modem reaches as they are, and others through the links, one after the other.
 // specs/Passing says what comes of values; proofs/Spread shows that one after the other they come to that.
+#![tactic(auto)]
 ghost use Rattle.std.specs.Prelude.{◌≡◌, true, cond, [], ◌∷◌, ◌≤◌, take};
 ghost use Rattle.lent.specs.Memory.{written, behind};
 ghost use Rattle.board_feeding.specs.Feeding.{contents};
@@ -15,7 +16,7 @@ use lent::{add, first};
 use links::Links;
 
 // The links behind some values, and the places behind what is written: for the screen, and in each output.
-#[derive(Drop)]
+#[derive(Clone, Copy)]
 pub struct Onward {
     pub links: Links,
     pub gathered: usize,

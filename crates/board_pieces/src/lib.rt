@@ -5,6 +5,7 @@
 // beforehand, the piece is heard for it first (crate `board_front`), and then for good (crate `board_playing`).
 // `lines_noted` hands out besides what each byte was to the receiver, for a night book.
 // specs/Pieces says what both promise; proofs/ shows that hearing the piece comes to what single calls come to.
+#![tactic(auto)]
 ghost use Rattle.std.specs.Prelude.{◌≡◌, true, ◌&&◌, ◌≤◌, length};
 ghost use Rattle.links_wiring.specs.declared.Module.TheVariants.{Keyboard, Modem, Socket};
 ghost use Rattle.board_front.specs.Fitting.{room_in};
@@ -15,7 +16,7 @@ use board::Board;
 use board_front::{Front, Room};
 
 // What a call answers: the paper's 0, 4 and 5.
-#[derive(Drop)]
+#[derive(Clone, Copy)]
 pub enum Answer {
     Taken,
     NoRoom,
@@ -23,7 +24,7 @@ pub enum Answer {
 }
 
 // What a call hands back, with the bytes written to each output.
-#[derive(Drop)]
+#[derive(Clone, Copy)]
 pub struct Passage {
     pub next: Board,
     pub answer: Answer,

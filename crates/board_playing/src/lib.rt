@@ -3,6 +3,7 @@
 // What the links send to the screen is gathered and written there, and the rest to four lent outputs, of which each
 // takes as much as fits: who hands a piece in sees to the room (`fits` of the crate `board_front`) and to the ranges.
 // specs/Playing says what a piece comes to; proofs/SoFar and proofs/Gathered show that turn by turn it comes to that.
+#![tactic(auto)]
 ghost use Rattle.std.specs.Prelude.{◌≡◌, true, cond, ◌&&◌, [], ◌∷◌, ◌++◌, ◌+◌, ◌-◌, ◌≤◌, ◌<◌, leb, length, replicate};
 ghost use Rattle.lent.specs.Memory.{written};
 ghost use Rattle.links_wiring.specs.declared.Module.TheVariants.{Keyboard, Modem, Socket};
@@ -20,7 +21,7 @@ use line_turns::take_turn;
 const GATHERED: usize = 4096;
 
 // The board behind a piece, and the place behind what is written to each output.
-#[derive(Drop)]
+#[derive(Clone, Copy)]
 pub struct Played {
     pub next: Board,
     pub used: Room,

@@ -6,6 +6,7 @@
 // Demand 1, any bytes are taken in a finite run, is also the checker's own verdict on every function of every crate: it
 // accepts only functions that end and stay within the memory lent to them, and no public one asks anything of its
 // caller.
+#![tactic(auto)]
 pub mod bench_cards;
 pub mod demand_one;
 pub mod demand_three;

@@ -23,7 +23,7 @@ sum_length (more t) = ap suc (sum_length t)
 pub sum_take : {A B C : List ℕ} → (n : ℕ) → Sum A B C → Sum (take n A) (take n B) (take n C)
 sum_take zero t = none
 sum_take (suc n) none = none
-sum_take (suc n) (more t) = more (sum_take n t)
+sum_take (suc n) (more {A = A} {B = B} {C = C} t) = more (sum_take {A = A} {B = B} {C = C} n t)
 
 pub sum_at : {A B C : List ℕ} → (i : ℕ) → Sum A B C → get_or C i 0 ≡ bit_xor (get_or A i 0) (get_or B i 0)
 sum_at i none = refl

@@ -3,11 +3,12 @@
 // says what each is; proofs/Numbered shows that the numbers count modulo 16 and writes the requests out,
 // proofs/Removed that a value with parity passes as that value, and proofs/Seen that counting the synchronising codes
 // to two is looking at the last three bytes.
+#![tactic(auto)]
 ghost use Rattle.std.specs.Prelude.{◌≡◌};
 ghost use Rattle.line_codes.specs.Codes.{plainly, next, four as fourOf, request as requestFor, listened};
 
 // What a byte makes of the waiting for a block.
-#[derive(Drop)]
+#[derive(Clone, Copy)]
 pub enum Listened {
     // So many synchronising codes are seen, 0 to 2.
     Seen(u8),

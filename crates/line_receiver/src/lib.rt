@@ -8,6 +8,7 @@
 // specs/Calls what each call does to it, specs/Runs what a whole run is; specs/Page tells the same page from the
 // line's side, without a receiver, specs/Standing ties a receiver to it, and proofs/ shows that the two agree at every
 // moment of every run.
+#![tactic(auto)]
 ghost use Rattle.std.specs.Prelude.{◌≡◌};
 ghost use Rattle.line_receiver.specs.States.{new_receiver};
 ghost use Rattle.line_receiver.specs.Calls.{stepped, switched_to, switched_on, switched_off, asked_again};
@@ -25,7 +26,7 @@ use states::emptied;
 pub use states::in_range;
 use while_on::{collect, hear};
 
-#[derive(Drop)]
+#[derive(Clone, Copy)]
 pub struct Receiver {
     // The first `count` are the bytes held; the others are no part of the state.
     pub held: [u8; 17],
@@ -36,14 +37,14 @@ pub struct Receiver {
 }
 
 // What a call judged.
-#[derive(Drop)]
+#[derive(Clone, Copy)]
 pub enum Judged {
     Nothing,
     Block(Verdict),
 }
 
 // What a call hands back. The places past a count are 0.
-#[derive(Drop)]
+#[derive(Clone, Copy)]
 pub struct Stepped {
     pub next: Receiver,
     // 0, or 5 for a broken state, which is handed back.

@@ -7,6 +7,7 @@
 // Every call takes any state and hands back the next one. specs/States says what a state is, specs/Calls what is sent and
 // resent, specs/Hearing what is heard, specs/Runs what a whole run is; proofs/Kept shows that the last sixteen blocks are
 // kept, proofs/Asked what a request brings, and proofs/Listening that no byte heard is lost.
+#![tactic(auto)]
 ghost use Rattle.std.specs.Prelude.{◌≡◌, ◌≤◌, ◌<◌, length, take};
 ghost use Rattle.line_sender.specs.States.{new_sender, keeping};
 ghost use Rattle.line_sender.specs.Calls.{sent_by, sent_left, resent_by, resent_left};
@@ -20,7 +21,7 @@ use hearing::{alone, behind, give};
 pub use stores::in_range;
 use stores::{begin_again, put_in, shifted};
 
-#[derive(Drop)]
+#[derive(Clone, Copy)]
 pub struct Sender {
     // The first `kept` blocks of seventeen bytes are those kept, oldest first; the others are no part of the state.
     pub blocks: [u8; 272],
@@ -33,7 +34,7 @@ pub struct Sender {
 }
 
 // What `send` hands back.
-#[derive(Drop)]
+#[derive(Clone, Copy)]
 pub struct Sent {
     pub sender: Sender,
     // 0, 1, 5, 2 or 4.
@@ -43,7 +44,7 @@ pub struct Sent {
 }
 
 // What a request is answered with.
-#[derive(Drop)]
+#[derive(Clone, Copy)]
 pub enum Reply {
     // The blocks from that one on.
     Again,
@@ -54,7 +55,7 @@ pub enum Reply {
 }
 
 // What `resend` hands back.
-#[derive(Drop)]
+#[derive(Clone, Copy)]
 pub struct Resent {
     pub sender: Sender,
     // 0, 1, 5 or 4.
@@ -64,7 +65,7 @@ pub struct Resent {
 }
 
 // What `hear` hands back. The places past a count are 0.
-#[derive(Drop)]
+#[derive(Clone, Copy)]
 pub struct Heard {
     pub sender: Sender,
     // 0, or 5 for a broken state, which is handed back.

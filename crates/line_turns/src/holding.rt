@@ -5,7 +5,7 @@ ghost use Rattle.line_turns.specs.Turns.{holds_more, filled, held_of};
 use line_receiver::{Phase, Receiver};
 
 // A receiver behind bytes that it only held, and how many they are.
-#[derive(Drop)]
+#[derive(Clone, Copy)]
 pub(crate) struct Held {
     pub(crate) receiver: Receiver,
     pub(crate) count: usize,

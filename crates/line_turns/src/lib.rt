@@ -4,6 +4,7 @@
 // nothing. A turn comes to what its bytes come to one by one, and says how many they are; and it has a note on the last,
 // so that a night book needs no receiver of its own. specs/Turns says what a turn is, specs/Notes what the notes are,
 // and proofs/Steps shows that a turn comes to what single steps do.
+#![tactic(auto)]
 ghost use Rattle.std.specs.Prelude.{◌≡◌};
 ghost use Rattle.line_turns.specs.Turns.{still, turn_of};
 
@@ -15,7 +16,7 @@ use line_receiver::{Judged, Receiver, Stepped};
 use notes::note_on;
 
 // What the bytes of a turn come to.
-#[derive(Drop)]
+#[derive(Clone, Copy)]
 pub struct Turn {
     // What the last of them hands back; where all are only held, the receiver with nothing going out.
     pub stepped: Stepped,

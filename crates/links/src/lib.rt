@@ -5,6 +5,7 @@
 // value above 127, is refused and changes nothing. `links_wiring` has the table, `links_hearing` the two modules that
 // are heard for commands and what a value from one of them means, `links_sending` what that does. specs/States says
 // what a state is, specs/Calls what each call does, specs/Runs what a whole run is; proofs/ holds their laws.
+#![tactic(auto)]
 ghost use Rattle.std.specs.Prelude.{◌≡◌};
 ghost use Rattle.links_sending.specs.Sending.{silence};
 ghost use Rattle.links.specs.States.{local_links, connected_links, left, in_range};
@@ -17,7 +18,7 @@ use links_hearing::{Heard, Unfinished};
 use links_sending::Sent;
 use links_wiring::{Module, Table};
 
-#[derive(Drop)]
+#[derive(Clone, Copy)]
 pub struct Links {
     pub table: Table,
     // What is unfinished from each ear.
@@ -26,14 +27,14 @@ pub struct Links {
 }
 
 // What a call answers: the paper's 0, 2 and 5.
-#[derive(Drop)]
+#[derive(Clone, Copy)]
 pub enum Answer {
     Taken,
     TooLarge,
     Broken,
 }
 
-#[derive(Drop)]
+#[derive(Clone, Copy)]
 pub struct Outcome {
     pub next: Links,
     pub answer: Answer,

@@ -3,6 +3,7 @@
 //
 // specs/Commands says how each command is spelled and what it orders; proofs/ shows that a link or ask command orders
 // just that, and no other command anything.
+#![tactic(auto)]
 ghost use Rattle.std.specs.Prelude.{◌≡◌};
 ghost use Rattle.links_wiring.specs.Modules.{receiver_code, sender_code};
 ghost use Rattle.links_commands.specs.Commands.{named, asking, linking, ordered_by_two, ordered_by_three};
@@ -10,7 +11,7 @@ ghost use Rattle.links_commands.specs.Commands.{named, asking, linking, ordered_
 use links_wiring::Module;
 
 // What is to be done.
-#[derive(Drop)]
+#[derive(Clone, Copy)]
 pub enum Order {
     Nothing,
     // The value is passed on.
@@ -28,7 +29,7 @@ pub enum Order {
 }
 
 // The module that a code names.
-#[derive(Drop)]
+#[derive(Clone, Copy)]
 enum Named {
     Is(Module),
     Nobody,

@@ -6,7 +6,7 @@ ghost use Rattle.links_hearing.specs.Ears.{name_of, own_of};
 use crate::Unfinished;
 use links_wiring::Module;
 
-#[derive(Drop)]
+#[derive(Clone, Copy)]
 pub enum Ear {
     Modem,
     Socket,

@@ -4,6 +4,7 @@
 // `hear` takes an unfinished sequence and one value, and says what is unfinished then and what is ordered. It knows no
 // table. specs/Hearing says the same; proofs/ shows that it takes in just the commands of `links_commands`. ears.rt has
 // the two modules that are heard.
+#![tactic(auto)]
 ghost use Rattle.std.specs.Prelude.{◌≡◌};
 ghost use Rattle.links_hearing.specs.Hearing.{in_range, holds, does, begun, escaped, heard};
 
@@ -13,7 +14,7 @@ pub use ears::Ear;
 use links_commands::Order;
 
 // An unfinished sequence.
-#[derive(Drop)]
+#[derive(Clone, Copy)]
 pub enum Unfinished {
     Free,
     // ESC.
@@ -27,7 +28,7 @@ pub enum Unfinished {
     Pro3Both(u8, u8),
 }
 
-#[derive(Drop)]
+#[derive(Clone, Copy)]
 pub struct Heard {
     pub unfinished: Unfinished,
     pub order: Order,

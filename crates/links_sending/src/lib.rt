@@ -2,6 +2,7 @@
 // sets or clears a link, and a reply goes to the sender alone.
 //
 // specs/Sending says so; proofs/ shows what each receiver gets of it.
+#![tactic(auto)]
 ghost use Rattle.std.specs.Prelude.{◌≡◌, cond, []};
 ghost use Rattle.links_replies.specs.Replies.{reply_of};
 ghost use Rattle.links_sending.specs.Sending.{packed, to as toThose, nowhere as nowhereMarked, silence as silenceSent};
@@ -11,14 +12,14 @@ use links_commands::Order;
 use links_wiring::{Module, Row, Table};
 
 // Up to five bytes: the first `count`. The places past them are 0.
-#[derive(Drop)]
+#[derive(Clone, Copy)]
 pub struct Bytes {
     pub codes: [u8; 5],
     pub count: usize,
 }
 
 // What each receiver gets.
-#[derive(Drop)]
+#[derive(Clone, Copy)]
 pub struct Sent {
     pub screen: Bytes,
     pub keyboard: Bytes,
@@ -27,7 +28,7 @@ pub struct Sent {
 }
 
 // What an order does: the table after it, and what each receiver gets.
-#[derive(Drop)]
+#[derive(Clone, Copy)]
 pub struct Obeyed {
     pub table: Table,
     pub sent: Sent,

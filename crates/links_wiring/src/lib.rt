@@ -3,10 +3,11 @@
 //
 // specs/Modules and specs/Tables say what a table is and what the two standard tables link; proofs/ shows what the test
 // for a module linked to itself says.
+#![tactic(auto)]
 ghost use Rattle.std.specs.Prelude.{◌≡◌};
 ghost use Rattle.links_wiring.specs.Tables.{local_table, connected_table, row_of, self_linked};
 
-#[derive(Drop)]
+#[derive(Clone, Copy)]
 pub enum Module {
     Screen,
     Keyboard,
@@ -15,7 +16,7 @@ pub enum Module {
 }
 
 // The receivers that one sender reaches.
-#[derive(Drop)]
+#[derive(Clone, Copy)]
 pub struct Row {
     pub screen: bool,
     pub keyboard: bool,
@@ -24,7 +25,7 @@ pub struct Row {
 }
 
 // A row for each sender: `table.keyboard.screen` says whether the keyboard's bytes reach the screen.
-#[derive(Drop)]
+#[derive(Clone, Copy)]
 pub struct Table {
     pub screen: Row,
     pub keyboard: Row,

@@ -17,7 +17,7 @@ const VALUES: usize = 15 * BLOCKS;
 const BYTES: usize = 17 * BLOCKS;
 
 // What is read of a file: how many bytes, and their checksum.
-#[derive(Drop)]
+#[derive(Clone, Copy)]
 struct Seen {
     read: u64,
     sum: u64,

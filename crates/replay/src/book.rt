@@ -21,7 +21,7 @@ const RESUMED: u8 = 4;
 // That of a block mended at bit 0; those of the other bits follow.
 const MENDED: u8 = 128;
 
-#[derive(Drop)]
+#[derive(Clone, Copy)]
 pub(crate) struct Book {
     // How many bytes the portions before had: the place of the first byte of this one.
     pub(crate) read: u64,

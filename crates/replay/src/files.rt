@@ -10,7 +10,7 @@ const STRIDE: u64 = 1048576;
 
 // What reading gave: how many bytes of the portion are filled, and whether there may be more after them; where reading
 // failed, what the system says is told already.
-#[derive(Drop)]
+#[derive(Clone, Copy)]
 pub(crate) struct Filled {
     pub(crate) count: usize,
     pub(crate) more: bool,

@@ -12,7 +12,7 @@ pub(crate) const ROOM: usize = 5 * (4096 + 16);
 
 // A board, whether it has taken every piece so far, how many bytes it has heard, and how many its links have handed
 // out.
-#[derive(Drop)]
+#[derive(Clone, Copy)]
 pub(crate) struct Play {
     pub(crate) board: Board,
     pub(crate) taking: bool,

@@ -12,6 +12,7 @@
 // texts.rt       texts put together in lent memory
 // checksums.rt   a number that tells two readings of a file apart
 // numbers.rt     sums and differences that stay within their type
+#![tactic(auto)]
 mod blocks;
 mod book;
 mod characters;

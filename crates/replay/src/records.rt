@@ -9,7 +9,7 @@ use lent::first;
 use screen_page::Screen;
 
 // A record that is being played: its board, and its book.
-#[derive(Drop)]
+#[derive(Clone, Copy)]
 struct Playing {
     play: Play,
     book: Book,

@@ -81,7 +81,7 @@ pub(crate) fn tell(template: &[u8], numbers: &[u64], written: bool) -> bool {
 
 // Lines gathered in lent memory, so that many are written at once: how many bytes they are, and whether all before them
 // is written.
-#[derive(Drop)]
+#[derive(Clone, Copy)]
 pub(crate) struct Gathered {
     pub(crate) used: usize,
     pub(crate) written: bool,

@@ -3,6 +3,7 @@
 // `step` takes one value and `run` a piece of them; both take any state and any values, and hand back the next state
 // with the answer: a broken state, or a value above 127, is refused and changes nothing. specs/Screens says what one
 // value does to a screen, specs/Calls what each call answers and hands back; proofs/ holds their laws.
+#![tactic(auto)]
 ghost use Rattle.std.specs.Prelude.{◌≡◌};
 ghost use Rattle.screen.specs.Calls.{stepped, ran};
 
@@ -13,13 +14,13 @@ pub use screen_answers::Answer;
 use screen_answers::answer_to;
 use screen_page::Screen;
 
-#[derive(Drop)]
+#[derive(Clone, Copy)]
 pub struct Stepped {
     pub screen: Screen,
     pub answer: Answer,
 }
 
-#[derive(Drop)]
+#[derive(Clone, Copy)]
 pub struct Ran {
     pub screen: Screen,
     pub answer: Answer,

@@ -4,25 +4,26 @@
 // specs/Attributing says what changes them, specs/Within what is in range; proofs/Written writes the start, SO and SI
 // out, proofs/Stays shows that attributes in range stay so, and proofs/Mosaics that nothing is inverse while G1 is
 // current. proofs/Literal has attributes in so many words, for all that is worked by hand.
+#![tactic(auto)]
 ghost use Rattle.std.specs.Prelude.{◌≡◌};
 ghost use Rattle.screen_attributes.specs.Attributing.{start_of, shifted_out, shifted_in};
 
 // A ground that waits for the character that takes it.
-#[derive(Drop)]
+#[derive(Clone, Copy)]
 pub enum Waiting {
     Nothing,
     Ground(u8),
 }
 
 // What is serial: it is in force from the character that takes it on. Colours are 0 to 7.
-#[derive(Drop)]
+#[derive(Clone, Copy)]
 pub struct Zone {
     pub ground: u8,
     pub waiting: Waiting,
 }
 
 // Those in force. Sets 0 and 1 are G0 and G1; colours are 0 to 7.
-#[derive(Drop)]
+#[derive(Clone, Copy)]
 pub struct Attributes {
     pub set: u8,
     pub ink: u8,

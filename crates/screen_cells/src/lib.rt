@@ -4,19 +4,20 @@
 // is, is said here alone: specs/Characters has the range of one and what takes a waiting ground, specs/Cells a blank
 // cell, which cells are in range, and when two are the same. proofs/Tested ties the tests to the ranges, proofs/Equal
 // says that the same is equal, proofs/Takers what takes a ground, and proofs/Written writes all of it out.
+#![tactic(auto)]
 ghost use Rattle.std.specs.Prelude.{◌≡◌};
 ghost use Rattle.screen_cells.specs.Characters.{good_character, takes, same_character};
 ghost use Rattle.screen_cells.specs.Cells.{blank_of, good_cell, same_looks, same_cell, is_blank};
 
 // A character. Sets 0, 1 and 2 are G0, G1 and G2.
-#[derive(Drop)]
+#[derive(Clone, Copy)]
 pub struct Character {
     pub set: u8,
     pub code: u8,
 }
 
 // A character on the screen, and how it looks. Colours are 0 to 7.
-#[derive(Drop)]
+#[derive(Clone, Copy)]
 pub struct Cell {
     pub character: Character,
     pub ink: u8,

@@ -3,11 +3,12 @@
 //
 // specs/Places says which places lie on the screen, and where their cells lie; proofs/Tested ties the test to it, and
 // proofs/Corners writes the corners out.
+#![tactic(auto)]
 ghost use Rattle.std.specs.Prelude.{◌≡◌};
 ghost use Rattle.screen_cursor.specs.Places.{on_screen, index_of};
 
 // Rows count from 0, columns from 1.
-#[derive(Drop)]
+#[derive(Clone, Copy)]
 pub struct Place {
     pub row: u8,
     pub column: u8,

@@ -3,6 +3,7 @@
 //
 // specs/Pages says what a fresh screen is, specs/Ranges which are in range, specs/Reading what reading gives; proofs/
 // holds their laws.
+#![tactic(auto)]
 ghost use Rattle.std.specs.Prelude.{◌≡◌};
 ghost use Rattle.screen_cursor.specs.Places.{On};
 ghost use Rattle.screen_page.specs.Pages.{fresh_screen};
@@ -13,7 +14,7 @@ use screen_cells::Cell;
 use screen_cursor::Place;
 use screen_pen::Pen;
 
-#[derive(Drop)]
+#[derive(Clone, Copy)]
 pub struct Screen {
     // Row 0 first, its columns 1 to 40, then row 1.
     pub cells: [Cell; 1000],
@@ -21,7 +22,7 @@ pub struct Screen {
 }
 
 // What reading a cell gives.
-#[derive(Drop)]
+#[derive(Clone, Copy)]
 pub enum Read {
     Broken,
     // No such place on the screen.
@@ -30,7 +31,7 @@ pub enum Read {
 }
 
 // What reading the cursor gives.
-#[derive(Drop)]
+#[derive(Clone, Copy)]
 pub enum Cursor {
     Broken,
     Hidden(Place),

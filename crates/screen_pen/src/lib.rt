@@ -4,6 +4,7 @@
 // `write` is one character written: its cell, and the pen after it. specs/Pens says what a pen is and which are in
 // range, specs/Strokes what a character does. The test of the ranges is in the crate `screen_ranges`, and what a value
 // does to a pen in `screen_planning`.
+#![tactic(auto)]
 ghost use Rattle.std.specs.Prelude.{◌≡◌};
 ghost use Rattle.screen_pen.specs.Pens.{fresh_pen};
 ghost use Rattle.screen_pen.specs.Strokes.{stroke as strokeOf};
@@ -14,20 +15,20 @@ use screen_cursor::Place;
 use screen_sequences::Sequence;
 
 // A place, and the attributes in force there.
-#[derive(Drop)]
+#[derive(Clone, Copy)]
 pub struct Spot {
     pub place: Place,
     pub attributes: Attributes,
 }
 
 // The last character written. Only a fresh pen has none.
-#[derive(Drop)]
+#[derive(Clone, Copy)]
 pub enum Last {
     Never,
     Was(Character),
 }
 
-#[derive(Drop)]
+#[derive(Clone, Copy)]
 pub struct Pen {
     pub here: Spot,
     // Where it was before US entered row 0; at the start, the start's.
@@ -38,7 +39,7 @@ pub struct Pen {
 }
 
 // One character written: its cell, and the pen after it.
-#[derive(Drop)]
+#[derive(Clone, Copy)]
 pub struct Stroke {
     pub cell: Cell,
     pub pen: Pen,

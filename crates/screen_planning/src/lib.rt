@@ -4,6 +4,7 @@
 // specs/Obeying says what each order does to a pen, specs/Planning what a value does; specs/Grounds, Lasts, Naming and
 // Reach what the claims on grounds, on the last character, on US and on changed cells speak of; proofs/ holds their laws,
 // and in proofs/Worked values worked by hand.
+#![tactic(auto)]
 ghost use Rattle.std.specs.Prelude.{◌≡◌};
 ghost use Rattle.screen_planning.specs.Planning.{plan as planFor};
 
@@ -16,7 +17,7 @@ use screen_cells::Character;
 use screen_pen::Pen;
 
 // What is asked of the cells.
-#[derive(Drop)]
+#[derive(Clone, Copy)]
 pub enum Asked {
     Nothing,
     // Rows 1 to 24 blank.
@@ -25,7 +26,7 @@ pub enum Asked {
     Put { character: Character, times: u8 },
 }
 
-#[derive(Drop)]
+#[derive(Clone, Copy)]
 pub struct Planned {
     pub pen: Pen,
     pub asked: Asked,

@@ -4,6 +4,7 @@
 // `hear` takes an unfinished sequence and one value, and says what is unfinished then and what is ordered. It knows no
 // cursor, no attribute and no cell. specs/Sequences says the same, rule by rule, and specs/Opening which sequences
 // values leave open; proofs/Worked has codes and sequences worked by hand.
+#![tactic(auto)]
 ghost use Rattle.std.specs.Prelude.{◌≡◌};
 ghost use Rattle.screen_sequences.specs.Sequences.{order, begins, escaped};
 ghost use Rattle.screen_sequences.specs.Sequences.{dropped, again, single, followed, heard};
@@ -11,7 +12,7 @@ ghost use Rattle.screen_sequences.specs.Sequences.{dropped, again, single, follo
 mod dropping;
 
 // An unfinished sequence.
-#[derive(Drop)]
+#[derive(Clone, Copy)]
 pub enum Sequence {
     Free,
     // ESC.
@@ -33,7 +34,7 @@ pub enum Sequence {
 }
 
 // What is to be done.
-#[derive(Drop)]
+#[derive(Clone, Copy)]
 pub enum Order {
     Skip,
     // BS, HT, VT, LF and CR.
@@ -63,7 +64,7 @@ pub enum Order {
     Again(u8),
 }
 
-#[derive(Drop)]
+#[derive(Clone, Copy)]
 pub struct Heard {
     pub sequence: Sequence,
     pub order: Order,

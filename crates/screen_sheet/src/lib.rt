@@ -1,6 +1,7 @@
 // The thousand cells of a screen (01, "Screen cells"): tested, and cleared.
 //
 // specs/Clearing says what is left of them, specs/Within which are in range; proofs/ holds their laws.
+#![tactic(auto)]
 ghost use Rattle.std.specs.Prelude.{◌≡◌};
 ghost use Rattle.screen_sheet.specs.Clearing.{cleared};
 ghost use Rattle.screen_sheet.specs.Within.{all_good};

@@ -4,6 +4,7 @@
 // specs/Writing says both; proofs/Having shows what the cell has, proofs/Stays that attributes in range stay so,
 // proofs/Twice that the same character once more takes nothing more, and proofs/Mosaics that writing makes nothing
 // inverse.
+#![tactic(auto)]
 ghost use Rattle.std.specs.Prelude.{◌≡◌};
 ghost use Rattle.screen_writing.specs.Writing.{zone_after, written};
 
@@ -11,7 +12,7 @@ use screen_attributes::{Attributes, Waiting, Zone};
 use screen_cells::{Cell, Character};
 
 // One character written: the attributes in force with and after it, and its cell.
-#[derive(Drop)]
+#[derive(Clone, Copy)]
 pub struct Written {
     pub attributes: Attributes,
     pub cell: Cell,

@@ -4,12 +4,13 @@
 // bits among the 136 of seventeen zeros is judged, and a line says how many patterns there are, and how many of them
 // were passed as clean, mended back to the block, mended into another block, and refused. That the same numbers hold
 // for every valid block is a theorem, `one_count_holds_for_every_block` of block_demands.
+#![tactic(auto)]
 use block_reader::Verdict;
 
 // A line on standard error says how far the count is, each time that so many patterns are judged.
 const PIECE: u64 = 1000000;
 
-#[derive(Drop)]
+#[derive(Clone, Copy)]
 struct Counts {
     patterns: u64,
     clean: u64,

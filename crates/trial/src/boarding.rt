@@ -14,7 +14,7 @@ use crate::words::{after, byte, part, place_among};
 use board::{Board, Outcome};
 
 // What words ask of the board.
-#[derive(Drop)]
+#[derive(Clone, Copy)]
 enum Wish {
     // They are no command.
     Nothing,
@@ -27,7 +27,7 @@ enum Wish {
 }
 
 // A call of the board's own.
-#[derive(Drop)]
+#[derive(Clone, Copy)]
 enum Call {
     On,
     Off,

@@ -8,7 +8,7 @@ pub(crate) const LONGEST: usize = 9000;
 
 // Where the cutting stands: from where to where the portion is still to be cut; how many characters the line has so
 // far, more than LONGEST where they are too many, and whether that is all of it; and whether the script has ended.
-#[derive(Drop)]
+#[derive(Clone, Copy)]
 pub(crate) struct At {
     pub(crate) from: usize,
     pub(crate) to: usize,

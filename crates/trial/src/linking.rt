@@ -11,7 +11,7 @@ use links::{Answer, Links, Outcome};
 use links_sending::Sent;
 
 // What words ask of the links.
-#[derive(Drop)]
+#[derive(Clone, Copy)]
 enum Wish {
     // They are no command.
     Nothing,

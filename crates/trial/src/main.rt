@@ -15,6 +15,7 @@
 // boarding.rt   the commands of the whole board; each further family of commands is such a file
 // piecing.rt    its command for a piece of the line
 // telling.rt    what the board hands back as words
+#![tactic(auto)]
 mod blocks;
 mod boarding;
 mod lines;

@@ -7,7 +7,7 @@ use board_pieces::Answer;
 use lent::first;
 
 // How many bytes a piece has, and how many each output has room for.
-#[derive(Drop)]
+#[derive(Clone, Copy)]
 struct Sizes {
     piece: usize,
     keyboard: usize,

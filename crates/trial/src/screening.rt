@@ -14,7 +14,7 @@ use screen_page::{Read, Screen};
 const LONGEST_RUN: usize = 4000;
 
 // What words ask of the screen.
-#[derive(Drop)]
+#[derive(Clone, Copy)]
 enum Wish {
     // They are no command.
     Nothing,
