@@ -6,6 +6,7 @@
 // this crate. It takes a byte in one step: the check bits so far are added to it, and a table has what that leaves
 // (specs/Table; why one entry is enough, proofs/Entering).
 #![tactic(auto)]
+
 ghost use Rattle.std.specs.Prelude.{◌≡◌};
 ghost use Rattle.block_division.specs.Division.{check_bits};
 ghost use Rattle.block_division.specs.Table.{mirrored};

@@ -2,6 +2,7 @@
 // have, how many have not, and a value with parity. specs/Parity is the words; proofs/Parities has their laws: parity
 // adds up like the bits do, a value with parity is even, and without it is the value again.
 #![tactic(auto)]
+
 ghost use Rattle.std.specs.Prelude.{◌≡◌};
 ghost use Rattle.block_parity.specs.Parity.{even, all_even, odds, with_parity};
 

@@ -6,6 +6,7 @@
 // that the places suffice. Most values are plain characters, which go along the links of the modem as they are: where all
 // are (plain.rt), the links are not asked for each (proofs/Passed).
 #![tactic(auto)]
+
 ghost use Rattle.std.specs.Prelude.{◌≡◌, ◌≤◌, ◌<◌, take};
 ghost use Rattle.links_sending.specs.Sending.{gets};
 ghost use Rattle.board_feeding.specs.Feeding.{appended, shares_of, gathered, nobody, fed, Enough};
@@ -69,8 +70,8 @@ fn append(outlet: Outlet, bytes: Bytes) -> Outlet
 
 // What was sent behind what each module has.
 fn gather(shares: Shares, sent: Sent) -> Shares
-    requires count_bound { (shares.screen.count ≤ 70) × (shares.keyboard.count ≤ 70) }
-    requires count_bound_2 { (shares.modem.count ≤ 70) × (shares.socket.count ≤ 70) }
+    requires inner { (shares.screen.count ≤ 70) × (shares.keyboard.count ≤ 70) }
+    requires outer { (shares.modem.count ≤ 70) × (shares.socket.count ≤ 70) }
     ensures { result ≡ gathered shares sent }
 {
     let screen = append(shares.screen, sent.screen);

@@ -78,8 +78,8 @@ fn outlet_of(marked: bool, values: [u8; 15], count: usize) -> Outlet
 
 // Plain values, along the links of the modem.
 pub(crate) fn pass_all(links: Links, values: [u8; 15], count: usize) -> Fed
-    requires count_bound { count ≤ 15 }
-    requires values_value { are_plain links values ≡ true }
+    requires few { count ≤ 15 }
+    requires plain { are_plain links values ≡ true }
     ensures { result ≡ fed links (take count values) }
 {
     let row = links.table.modem;

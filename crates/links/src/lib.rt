@@ -6,6 +6,7 @@
 // are heard for commands and what a value from one of them means, `links_sending` what that does. specs/States says
 // what a state is, specs/Calls what each call does, specs/Runs what a whole run is; proofs/ holds their laws.
 #![tactic(auto)]
+
 ghost use Rattle.std.specs.Prelude.{◌≡◌};
 ghost use Rattle.links_sending.specs.Sending.{silence};
 ghost use Rattle.links.specs.States.{local_links, connected_links, left, in_range};

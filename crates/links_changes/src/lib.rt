@@ -3,6 +3,7 @@
 //
 // specs/Linking says so; proofs/ shows what it does to each pair, and that no module is ever linked to itself.
 #![tactic(auto)]
+
 ghost use Rattle.std.specs.Prelude.{◌≡◌};
 ghost use Rattle.links_wiring.specs.Modules.{place_of, same as sameAs};
 ghost use Rattle.links_changes.specs.Linking.{marking, with_row, linked, table_after};

@@ -4,6 +4,7 @@
 // specs/Commands says how each command is spelled and what it orders; proofs/ shows that a link or ask command orders
 // just that, and no other command anything.
 #![tactic(auto)]
+
 ghost use Rattle.std.specs.Prelude.{◌≡◌};
 ghost use Rattle.links_wiring.specs.Modules.{receiver_code, sender_code};
 ghost use Rattle.links_commands.specs.Commands.{named, asking, linking, ordered_by_two, ordered_by_three};

@@ -2,6 +2,7 @@
 // nothing, and its contract is a theorem about what `links` and the crates below it define. It is proved in those
 // crates, whose words it speaks.
 #![tactic(auto)]
+
 pub mod cards;
 pub mod flow;
 pub mod replying;

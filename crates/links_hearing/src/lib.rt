@@ -5,6 +5,7 @@
 // table. specs/Hearing says the same; proofs/ shows that it takes in just the commands of `links_commands`. ears.rt has
 // the two modules that are heard.
 #![tactic(auto)]
+
 ghost use Rattle.std.specs.Prelude.{◌≡◌};
 ghost use Rattle.links_hearing.specs.Hearing.{in_range, holds, does, begun, escaped, heard};
 

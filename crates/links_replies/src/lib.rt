@@ -2,6 +2,7 @@
 //
 // specs/Replies says what a reply is; proofs/ shows that its status tells the table, bit by bit.
 #![tactic(auto)]
+
 ghost use Rattle.std.specs.Prelude.{◌≡◌, ◌≤◌};
 ghost use Rattle.links_wiring.specs.Modules.{receiver_code};
 ghost use Rattle.links_replies.specs.Replies.{column_of, weighed, summed, reply_of};

@@ -3,6 +3,7 @@
 //
 // specs/Sending says so; proofs/ shows what each receiver gets of it.
 #![tactic(auto)]
+
 ghost use Rattle.std.specs.Prelude.{◌≡◌, cond, []};
 ghost use Rattle.links_replies.specs.Replies.{reply_of};
 ghost use Rattle.links_sending.specs.Sending.{packed, to as toThose, nowhere as nowhereMarked, silence as silenceSent};

@@ -4,6 +4,7 @@
 // specs/Modules and specs/Tables say what a table is and what the two standard tables link; proofs/ shows what the test
 // for a module linked to itself says.
 #![tactic(auto)]
+
 ghost use Rattle.std.specs.Prelude.{◌≡◌};
 ghost use Rattle.links_wiring.specs.Tables.{local_table, connected_table, row_of, self_linked};
 

@@ -26,7 +26,7 @@ fn is_other(pen: Pen, value: u8) -> bool
 // Each value leaves a character to be stored so many times: itself once where it is nothing but a character, as `plan`
 // would say too, and else what is planned for it, none for most.
 pub(crate) fn advance(start: Screen, values: &[u8]) -> Screen
-    requires start_value { in_range start ≡ true }
+    requires in_range { in_range start ≡ true }
     requires values { Values values.now }
     ensures { result ≡ advanced_by start values.now }
 {

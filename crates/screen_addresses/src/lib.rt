@@ -3,6 +3,7 @@
 // specs/Addressing says which; proofs/Corners writes out the corners and what lies beyond, and proofs/Stays shows that
 // the place lies on the screen.
 #![tactic(auto)]
+
 ghost use Rattle.std.specs.Prelude.{◌≡◌};
 ghost use Rattle.screen_addresses.specs.Addressing.{addressed};
 

@@ -5,6 +5,7 @@
 // out, proofs/Stays shows that attributes in range stay so, and proofs/Mosaics that nothing is inverse while G1 is
 // current. proofs/Literal has attributes in so many words, for all that is worked by hand.
 #![tactic(auto)]
+
 ghost use Rattle.std.specs.Prelude.{◌≡◌};
 ghost use Rattle.screen_attributes.specs.Attributing.{start_of, shifted_out, shifted_in};
 

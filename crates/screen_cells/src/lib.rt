@@ -5,6 +5,7 @@
 // cell, which cells are in range, and when two are the same. proofs/Tested ties the tests to the ranges, proofs/Equal
 // says that the same is equal, proofs/Takers what takes a ground, and proofs/Written writes all of it out.
 #![tactic(auto)]
+
 ghost use Rattle.std.specs.Prelude.{◌≡◌};
 ghost use Rattle.screen_cells.specs.Characters.{good_character, takes, same_character};
 ghost use Rattle.screen_cells.specs.Cells.{blank_of, good_cell, same_looks, same_cell, is_blank};

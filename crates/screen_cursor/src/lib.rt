@@ -4,6 +4,7 @@
 // specs/Places says which places lie on the screen, and where their cells lie; proofs/Tested ties the test to it, and
 // proofs/Corners writes the corners out.
 #![tactic(auto)]
+
 ghost use Rattle.std.specs.Prelude.{◌≡◌};
 ghost use Rattle.screen_cursor.specs.Places.{on_screen, index_of};
 

@@ -3,6 +3,7 @@
 // specs/Pairing says what each pair does; proofs/Written writes pairs out, proofs/Stays shows that attributes in range
 // stay so, proofs/Grounds what a pair does to grounds, and proofs/Mosaics that none makes G1 inverse.
 #![tactic(auto)]
+
 ghost use Rattle.std.specs.Prelude.{◌≡◌};
 ghost use Rattle.screen_escapes.specs.Pairing.{waits_for, column_four, column_five, paired};
 

@@ -4,6 +4,7 @@
 // writes out where each leads at every edge, proofs/Stays shows that no move leaves the screen, and proofs/Rows that
 // none enters row 0 or leaves it.
 #![tactic(auto)]
+
 ghost use Rattle.std.specs.Prelude.{◌≡◌};
 ghost use Rattle.screen_motion.specs.Moves.{row_below, row_above, left_of, right_of, up_of, down_of, first_of};
 

@@ -4,6 +4,7 @@
 // specs/Pages says what a fresh screen is, specs/Ranges which are in range, specs/Reading what reading gives; proofs/
 // holds their laws.
 #![tactic(auto)]
+
 ghost use Rattle.std.specs.Prelude.{◌≡◌};
 ghost use Rattle.screen_cursor.specs.Places.{On};
 ghost use Rattle.screen_page.specs.Pages.{fresh_screen};

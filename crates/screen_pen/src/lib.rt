@@ -5,6 +5,7 @@
 // range, specs/Strokes what a character does. The test of the ranges is in the crate `screen_ranges`, and what a value
 // does to a pen in `screen_planning`.
 #![tactic(auto)]
+
 ghost use Rattle.std.specs.Prelude.{◌≡◌};
 ghost use Rattle.screen_pen.specs.Pens.{fresh_pen};
 ghost use Rattle.screen_pen.specs.Strokes.{stroke as strokeOf};

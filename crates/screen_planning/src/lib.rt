@@ -5,6 +5,7 @@
 // Reach what the claims on grounds, on the last character, on US and on changed cells speak of; proofs/ holds their laws,
 // and in proofs/Worked values worked by hand.
 #![tactic(auto)]
+
 ghost use Rattle.std.specs.Prelude.{◌≡◌};
 ghost use Rattle.screen_planning.specs.Planning.{plan as planFor};
 

@@ -2,6 +2,7 @@
 // which do (`specs/Pens`, `specs/Within`, `specs/Sequences`), and `screen_pen`'s proofs/Stays that a pen in range stays
 // so.
 #![tactic(auto)]
+
 ghost use Rattle.std.specs.Prelude.{◌≡◌};
 ghost use Rattle.screen_sequences.specs.Sequences.{in_range as goodSequence};
 ghost use Rattle.screen_attributes.specs.Within.{good_waiting, good_zone, good};

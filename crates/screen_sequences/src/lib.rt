@@ -5,6 +5,7 @@
 // cursor, no attribute and no cell. specs/Sequences says the same, rule by rule, and specs/Opening which sequences
 // values leave open; proofs/Worked has codes and sequences worked by hand.
 #![tactic(auto)]
+
 ghost use Rattle.std.specs.Prelude.{◌≡◌};
 ghost use Rattle.screen_sequences.specs.Sequences.{order, begins, escaped};
 ghost use Rattle.screen_sequences.specs.Sequences.{dropped, again, single, followed, heard};

@@ -2,6 +2,7 @@
 //
 // specs/Clearing says what is left of them, specs/Within which are in range; proofs/ holds their laws.
 #![tactic(auto)]
+
 ghost use Rattle.std.specs.Prelude.{◌≡◌};
 ghost use Rattle.screen_sheet.specs.Clearing.{cleared};
 ghost use Rattle.screen_sheet.specs.Within.{all_good};

@@ -5,6 +5,7 @@
 // proofs/Twice that the same character once more takes nothing more, and proofs/Mosaics that writing makes nothing
 // inverse.
 #![tactic(auto)]
+
 ghost use Rattle.std.specs.Prelude.{◌≡◌};
 ghost use Rattle.screen_writing.specs.Writing.{zone_after, written};
 

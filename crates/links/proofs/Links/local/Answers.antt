@@ -1,0 +1,6 @@
+-- `links::Links::local` meets its contract. Assumes nothing.
+use borrow.Author.Rules.{rules}
+use Rattle.links.proofs.Links.local.Goals as goal
+
+pub returns : goal.returns
+returns c = simp c.local_table.ensures

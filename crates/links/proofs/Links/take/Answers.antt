@@ -1,0 +1,8 @@
+-- `links::Links::take` meets its contract. Assumes nothing.
+use Rattle.links.specs.Calls.{taking}
+use borrow.Author.Rules.{rules}
+use Rattle.links.proofs.Links.take.Goals as goal
+
+pub returns : goal.returns
+unfolding taking
+returns c = simp (c.left.ensures, c.obey-done.ensures, c.name.ensures)

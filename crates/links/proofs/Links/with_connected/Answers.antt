@@ -1,0 +1,8 @@
+-- `links::Links::with_connected` meets its contract. Assumes nothing.
+use Rattle.links.specs.Calls.{choosing}
+use borrow.Author.Rules.{rules}
+use Rattle.links.proofs.Links.with_connected.Goals as goal
+
+pub returns : goal.returns
+unfolding choosing
+returns c = simp (c.choose.ensures, c.connected_table.ensures)

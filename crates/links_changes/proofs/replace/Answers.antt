@@ -1,0 +1,15 @@
+-- `links_changes::replace` meets its contract. Assumes nothing.
+use borrow.Author.Rules.{rules}
+use Rattle.links_changes.proofs.replace.Goals as goal
+
+pub returns-in-Screen : goal.returns-in-Screen
+returns-in-Screen c = simp c.in-Screen.is
+
+pub returns-in-Keyboard : goal.returns-in-Keyboard
+returns-in-Keyboard c = simp c.in-Keyboard.is
+
+pub returns-in-Modem : goal.returns-in-Modem
+returns-in-Modem c = simp c.in-Modem.is
+
+pub returns-in-Socket : goal.returns-in-Socket
+returns-in-Socket c = simp c.in-Socket.is

@@ -1,0 +1,6 @@
+-- `links_commands::ask` meets its contract. Assumes nothing.
+use borrow.Author.Rules.{rules}
+use Rattle.links_commands.proofs.ask.Goals as goal
+
+pub returns-in-Is : goal.returns-in-Is
+returns-in-Is c = simp c.in-Is.is

@@ -1,0 +1,14 @@
+-- `links_sending::obey` meets its contract. Assumes nothing.
+use Rattle.links_sending.specs.Sending.{obeyed}
+use borrow.Author.Rules.{rules}
+use Rattle.links_sending.proofs.obey.Goals as goal
+
+pub returns : goal.returns
+unfolding obeyed
+returns c =
+    simp (
+      c.to-sent.ensures,
+      c.receivers.ensures,
+      c.codes-bytes.ensures,
+      c.relink-after.ensures,
+    )

@@ -1,0 +1,6 @@
+-- `screen_motion::down` meets its contract. Assumes nothing.
+use borrow.Author.Rules.{rules}
+use Rattle.screen_motion.proofs.down.Goals as goal
+
+pub returns : goal.returns
+returns c = simp c.row_below.ensures

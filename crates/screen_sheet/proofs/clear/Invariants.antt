@@ -1,0 +1,20 @@
+-- `screen_sheet::clear` meets its contract: row 0 is copied over a thousand blank cells. Assumes nothing.
+use mathlib.Core.Path.{◌≡◌, ap, ◌∙◌}
+use mathlib.Core.List.{List, ◌++◌}
+use Prim.Native.Nat.{ℕ, ◌-◌, ◌≤◌, ◌<◌}
+use native.Mathlib.Omega.{arith}
+use lib.Dec.{lit≤}
+use lib.ListN.{length, get_or, take, drop, set, replicate}
+use borrow.Author.Rules.{rules}
+use Rattle.laws.proofs.Lists.{put, length_mapped}
+use Rattle.screen_cells.specs.declared.Cell.{Cell}
+use Rattle.screen_cells.specs.Cells.{blank_of}
+use Rattle.screen_sheet.specs.Clearing.{cleared}
+use Rattle.screen_sheet.proofs.Stays.{no_cell}
+use Rattle.screen_sheet.proofs.clear.Given as goal
+
+abbrev pub invariant-loop-i : goal.invariant-loop-i
+invariant-loop-i l = (l.i ≤ 40) × (l.cells ≡ take l.i (l.old) ++ drop l.i (replicate 1000 blank_of))
+
+abbrev pub decreases-loop-i : goal.decreases-loop-i
+decreases-loop-i l = 1000 - l.i
