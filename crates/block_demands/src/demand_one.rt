@@ -5,11 +5,11 @@ ghost use Rattle.std.specs.Prelude.{◌≡◌, List, [], ◌∷◌, ◌⊎◌, �
 ghost use Rattle.numbers.specs.Numbers.{Conditions, number_of, GivenExactly};
 ghost use Rattle.values.specs.Large.{Values, first_large};
 ghost use Rattle.block_maker.specs.declared.Made.{Made};
-ghost use Rattle.block_maker.specs.Making.{make_number, make_told, make_left, told as toldMade};
+ghost use Rattle.block_maker.specs.Making.{make_number, make_told, make_left, told as told_made};
 ghost use Rattle.block_reader.specs.declared.Verdict.{Verdict};
 ghost use Rattle.block_reader.specs.declared.Verdict.TheVariants.{Mended};
 ghost use Rattle.block_reader.specs.Judging.{verdict, judged, left, handed, bit_named, judge_conditions};
-ghost use Rattle.block_reader.specs.Judging.{told as toldVerdict};
+ghost use Rattle.block_reader.specs.Judging.{told as told_verdict};
 
 // A number is given exactly when its condition holds and none before it in the order 1, 5, 2, 4, 3 does. The
 // judge's number comes of the paper's conditions: the block has not seventeen bytes, or no valid block is within
@@ -45,8 +45,8 @@ pub fn refusals_leave_what_was_lent()
 // Two answers that tell the same number, and name the same place or bit, are the same: each promise is met by one
 // outcome only. The bit that the judge names is the one mended, and 255 stands for none.
 pub fn an_answer_is_told_in_one_way()
-    ensures making { (m n : Made) → toldMade m ≡ toldMade n → m ≡ n }
-    ensures judging { (v w : Verdict) → toldVerdict v ≡ toldVerdict w → v ≡ w }
+    ensures making { (m n : Made) → told_made m ≡ told_made n → m ≡ n }
+    ensures judging { (v w : Verdict) → told_verdict v ≡ told_verdict w → v ≡ w }
     ensures bit { (B : List ℕ) → ((k : ℕ) → verdict B ≡ Mended k → bit_named (judged B) ≡ k)
         × (((k : ℕ) → verdict B ≡ Mended k → ⊥) → bit_named (judged B) ≡ 255) }
 {}

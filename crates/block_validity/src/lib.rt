@@ -8,8 +8,9 @@
 // byte 16 is bit 127 and no code bit (ParityBit). The functions are the leaves that the maker and the reader of blocks
 // (crate block) are built of. Each takes any bytes.
 #![tactic(auto)]
+
 ghost use Rattle.std.specs.Prelude.{◌≡◌};
-ghost use Rattle.block_validity.specs.Block.{remainder as remainderOf};
+ghost use Rattle.block_validity.specs.Block.{remainder as remainder_of};
 ghost use Rattle.block_validity.specs.Changed.{flip as flipped};
 
 const WEIGHTS: [u8; 8] = [1, 2, 4, 8, 16, 32, 64, 128];
@@ -27,7 +28,7 @@ pub fn flip(block: &mut [u8], k: usize)
 // The remainder of the code bits. Byte 16 holds the powers 6 to 0 as they stand, so its bits are added to the check
 // bits of the bytes before it; a block cut short has zeros for what it lacks.
 pub fn remainder(block: &[u8]) -> u8
-    ensures { result ≡ remainderOf block.now }
+    ensures { result ≡ remainder_of block.now }
 {
     if block.len() < 16 {
         return block_division::check_bits(block);

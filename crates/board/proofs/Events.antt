@@ -9,13 +9,13 @@ use Rattle.links_wiring.specs.declared.Module.TheVariants.{Screen, Keyboard, Soc
 use Rattle.links_wiring.specs.Tables.{reaches}
 use Rattle.links_replies.specs.Replies.{statuses_of}
 use Rattle.links_hearing.specs.declared.Unfinished.TheVariants.{Free}
-use Rattle.line_receiver.specs.Runs.{Event as Heard, obey as receiverObey, sent_by}
-use Rattle.links_hearing.specs.declared.ears.Ear.TheVariants.{Socket as socketEar}
+use Rattle.line_receiver.specs.Runs.{Event as Heard, obey as receiver_obey, sent_by}
+use Rattle.links_hearing.specs.declared.ears.Ear.TheVariants.{Socket as socket_ear}
 use Rattle.links.specs.declared.Links.{Links}
 use Rattle.links.specs.declared.Outcome.{Outcome as LinksOutcome}
 use Rattle.links.specs.declared.Answer.TheVariants.{Taken}
 use Rattle.links.specs.States.{unfinished}
-use Rattle.links.specs.Runs.{Call, key as keyCall, value, given}
+use Rattle.links.specs.Runs.{Call, key as key_call, value, given}
 use Rattle.links.proofs.Flow.{plain_goes, key_goes}
 use Rattle.links.proofs.Choosing.{begins_local, begins_connected, local_chosen, connected_chosen}
 use Rattle.board_feeding.specs.Feeding.{got}
@@ -36,14 +36,14 @@ unfolding following heard_by
 one_heard b x e = simp e
 
 pub hears : (h : Heard) (b : Board) → InBoard b
-    → ((obey (front h) b).next.receiver ≡ (receiverObey h b.receiver).next)
-    × (request (obey (front h) b) ≡ (sent_by (receiverObey h b.receiver)).asked)
+    → ((obey (front h) b).next.receiver ≡ (receiver_obey h b.receiver).next)
+    × (request (obey (front h) b) ≡ (sent_by (receiver_obey h b.receiver)).asked)
 unfolding requests
 hears h b i =
     let g = apart (front h ∷ []) b i in (
       g.receiver,
       sym (append-nil (request (obey (front h) b))) ∙ g.asked
-          ∙ append-nil (sent_by (receiverObey h b.receiver)).asked,
+          ∙ append-nil (sent_by (receiver_obey h b.receiver)).asked,
     )
 
 -- where a call of the links sends just these bytes along a sender's links
@@ -68,18 +68,18 @@ pub key_out : (b : Board) → InBoard b → (v : ℕ) → v < 128
     ≡ (ran b.screen (cond (reaches b.links.table Keyboard Screen) (v ∷ []) [])).screen)
 key_out b i v h =
     let p = key_goes b.links v i.links h in (
-      goes_out b i (key v) (keyCall v) Keyboard (v ∷ []) refl p.reached,
-      is_shown b i (key v) (keyCall v) Keyboard (v ∷ []) refl p.reached,
+      goes_out b i (key v) (key_call v) Keyboard (v ∷ []) refl p.reached,
+      is_shown b i (key v) (key_call v) Keyboard (v ∷ []) refl p.reached,
     )
 
-pub socket_out : (b : Board) → InBoard b → unfinished b.links socketEar ≡ Free → (v : ℕ) → v < 128 → (v ≡ 27 → ⊥)
+pub socket_out : (b : Board) → InBoard b → unfinished b.links socket_ear ≡ Free → (v : ℕ) → v < 128 → (v ≡ 27 → ⊥)
     → ((m : Module) → Outside m → out_to m (obey (socket v) b) ≡ cond (reaches b.links.table Socket m) (v ∷ []) [])
     × ((obey (socket v) b).next.screen
     ≡ (ran b.screen (cond (reaches b.links.table Socket Screen) (v ∷ []) [])).screen)
 socket_out b i f v h n =
-    let p = plain_goes b.links socketEar v i.links f h n in (
-      goes_out b i (socket v) (value socketEar v) Socket (v ∷ []) refl p.reached,
-      is_shown b i (socket v) (value socketEar v) Socket (v ∷ []) refl p.reached,
+    let p = plain_goes b.links socket_ear v i.links f h n in (
+      goes_out b i (socket v) (value socket_ear v) Socket (v ∷ []) refl p.reached,
+      is_shown b i (socket v) (value socket_ear v) Socket (v ∷ []) refl p.reached,
     )
 
 pub chooses : (b : Board) → InBoard b

@@ -3,15 +3,15 @@ use mathlib.Core.Path.{◌≡◌, refl, sym, ap, ap₂, ◌∙◌, subst, subst�
 use mathlib.Core.List.{List, [], ◌∷◌, ◌++◌, append-nil}
 use Prim.Native.Nat.{ℕ}
 use Rattle.line_receiver.specs.declared.Receiver.{Receiver}
-use Rattle.line_receiver.specs.Runs.{Event as Heard, byte, on, off, ask, obey as receiverObey, sent_by}
-use Rattle.line_receiver.specs.Runs.{run as receiverRun, sent, all_asked}
+use Rattle.line_receiver.specs.Runs.{Event as Heard, byte, on, off, ask, obey as receiver_obey, sent_by}
+use Rattle.line_receiver.specs.Runs.{run as receiver_run, sent, all_asked}
 use Rattle.line_receiver.proofs.Kept.{keeps, run_append as heard-append, sent_append, asked_append}
 use Rattle.links_wiring.specs.declared.Module.{Module}
 use Rattle.links_wiring.specs.declared.Module.TheVariants.{Screen, Keyboard, Modem, Socket}
 use Rattle.links.specs.declared.Links.{Links}
 use Rattle.links_hearing.specs.declared.ears.Ear.TheVariants.{Socket as from_socket}
-use Rattle.links.specs.Runs.{Call, key as keyCall, value, to_local as localCall, to_connected as connectedCall}
-use Rattle.links.specs.Runs.{obey as linksObey, given, run as linksRun}
+use Rattle.links.specs.Runs.{Call, key as key_call, value, to_local as local_call, to_connected as connected_call}
+use Rattle.links.specs.Runs.{obey as links_obey, given, run as links_run}
 use Rattle.links.proofs.Ranges.{run_kept}
 use Rattle.board_feeding.specs.Feeding.{from_line, got, outlet, contents, fed}
 use Rattle.board_feeding.proofs.Outlets.{held}
@@ -51,17 +51,17 @@ out_of g o k l s Keyboard u = ap contents k ∙ held (g Keyboard)
 out_of g o k l s Modem u = ap contents l ∙ held (g Modem)
 out_of g o k l s Socket u = ap contents s ∙ held (g Socket)
 
-front_is : (h : Heard) (b : Board) → obey_front h b ≡ following b (receiverObey h b.receiver)
+front_is : (h : Heard) (b : Board) → obey_front h b ≡ following b (receiver_obey h b.receiver)
 front_is (byte x) b = refl
 front_is on b = refl
 front_is off b = refl
 front_is ask b = refl
 
 front_alone : (h : Heard) (b : Board) → InBoard b
-    → Alone b (obey_front h b) (h ∷ []) (from_line (sent_by (receiverObey h b.receiver)).passed)
+    → Alone b (obey_front h b) (h ∷ []) (from_line (sent_by (receiver_obey h b.receiver)).passed)
 unfolding Alone following fed
 front_alone h b i =
-    let s = receiverObey h b.receiver in
+    let s = receiver_obey h b.receiver in
     let cs = from_line (sent_by s).passed in
     let g : Module → List ℕ = λ m. got m b.links cs in
     let e : obey_front h b ≡ followed b s = front_is h b ∙ simp (tested b i) in
@@ -84,10 +84,10 @@ front_alone h b i =
     })
 
 -- a call of the links by itself: the receiver hears nothing
-call_alone : (c : Call) (b : Board) → InBoard b → Alone b (passing b (linksObey c b.links)) [] (c ∷ [])
+call_alone : (c : Call) (b : Board) → InBoard b → Alone b (passing b (links_obey c b.links)) [] (c ∷ [])
 unfolding Alone passing got
 call_alone c b i =
-    let o = linksObey c b.links in
+    let o = links_obey c b.links in
     let g : Module → List ℕ = given b.links c in
     let all : (m : Module) → g m ≡ got m b.links (c ∷ []) = λ m. sym (append-nil (g m)) in
     let shown : contents (outlet (g Screen)) ≡ got Screen b.links (c ∷ []) = held (g Screen) ∙ all Screen in
@@ -117,17 +117,17 @@ further : {b c d : Board} {hs gs : List Heard} {cs ds : List Call} {outs more : 
     → InBoard b → Goes b c hs cs outs qs → Goes c d gs ds more ps
     → Goes b d (hs ++ gs) (cs ++ ds) (λ m. outs m ++ more m) (qs ++ ps)
 further {b} {c} {d} {hs} {gs} {cs} {ds} {outs} {more} {qs} {ps} i f n =
-    let next : (m : Module) → got m c.links ds ≡ got m (linksRun b.links cs) ds =
+    let next : (m : Module) → got m c.links ds ≡ got m (links_run b.links cs) ds =
     λ m. ap (λ (l : Links). got m l ds) f.links in
     record {
       receiver =
-          n.receiver ∙ ap (λ (r : Receiver). receiverRun r gs) f.receiver ∙ sym (heard-append hs gs b.receiver);
-      links = n.links ∙ ap (λ (l : Links). linksRun l ds) f.links ∙ sym (run_append b.links cs ds);
+          n.receiver ∙ ap (λ (r : Receiver). receiver_run r gs) f.receiver ∙ sym (heard-append hs gs b.receiver);
+      links = n.links ∙ ap (λ (l : Links). links_run l ds) f.links ∙ sym (run_append b.links cs ds);
       screen =
           n.screen ∙ ap₂ (λ (s : Page) (vs : List ℕ). (ran s vs).screen) f.screen (next Screen)
           ∙ ap (λ (r : Ran). r.screen)
-          (sym (run_parts b.screen (got Screen b.links cs) (got Screen (linksRun b.links cs) ds) i.screen
-          (small_got Screen b.links cs) (small_got Screen (linksRun b.links cs) ds)))
+          (sym (run_parts b.screen (got Screen b.links cs) (got Screen (links_run b.links cs) ds) i.screen
+          (small_got Screen b.links cs) (small_got Screen (links_run b.links cs) ds)))
           ∙ ap (λ (vs : List ℕ). (ran b.screen vs).screen) (sym (got_append Screen b.links cs ds));
       taken = screen_takes b (cs ++ ds) i;
       handed =
@@ -136,7 +136,7 @@ further {b} {c} {d} {hs} {gs} {cs} {ds} {outs} {more} {qs} {ps} i f n =
       asked =
           ap₂ (λ (x y : List ℕ). x ++ y) f.asked
           (n.asked ∙ ap (λ (r : Receiver). all_asked (sent r gs)) f.receiver)
-          ∙ sym (asked_append (sent b.receiver hs) (sent (receiverRun b.receiver hs) gs))
+          ∙ sym (asked_append (sent b.receiver hs) (sent (receiver_run b.receiver hs) gs))
           ∙ ap all_asked (sym (sent_append hs gs b.receiver));
       range = n.range;
     }
@@ -164,16 +164,16 @@ apart (front h ∷ es) b i =
     let n = apart es (obey_front h b).next f.range in
     further i f (subst (Rest (obey_front h b).next es) f.receiver n)
 apart (key v ∷ es) b i =
-    let f = call_alone (keyCall v) b i in
+    let f = call_alone (key_call v) b i in
     further i f (subst (Rest (obey (key v) b).next es) f.receiver (apart es (obey (key v) b).next f.range))
 apart (socket v ∷ es) b i =
     let f = call_alone (value from_socket v) b i in
     further i f
     (subst (Rest (obey (socket v) b).next es) f.receiver (apart es (obey (socket v) b).next f.range))
 apart (to_local ∷ es) b i =
-    let f = call_alone localCall b i in
+    let f = call_alone local_call b i in
     further i f (subst (Rest (obey to_local b).next es) f.receiver (apart es (obey to_local b).next f.range))
 apart (to_connected ∷ es) b i =
-    let f = call_alone connectedCall b i in
+    let f = call_alone connected_call b i in
     further i f
     (subst (Rest (obey to_connected b).next es) f.receiver (apart es (obey to_connected b).next f.range))

@@ -10,9 +10,9 @@ use Rattle.links_wiring.specs.Tables.{NoneItself}
 use Rattle.links_hearing.specs.Hearing.{codes_of}
 use Rattle.links_hearing.specs.declared.ears.Ear.{Ear}
 use Rattle.links_hearing.specs.declared.ears.Ear.TheVariants.{Modem as modem, Socket as socket}
-use Rattle.line_receiver.specs.States.{in_range as receiverInRange}
+use Rattle.line_receiver.specs.States.{in_range as receiver_in_range}
 use Rattle.line_receiver.proofs.Kept.{new_in}
-use Rattle.links.specs.States.{unfinished, in_range as linksInRange}
+use Rattle.links.specs.States.{unfinished, in_range as links_in_range}
 use Rattle.links.specs.Runs.{InLinks}
 use Rattle.links.proofs.Ranges.{not_true, passed, tested as links-tested}
 use Rattle.screen_page.specs.Ranges.{broken}
@@ -46,8 +46,8 @@ pub passed_in : (b : Board) → length b.receiver.held ≡ 17 → length b.scree
     → InBoard b
 unfolding in_range
 passed_in b held cells e =
-    let r = receiverInRange b.receiver in
-    let l = linksInRange b.links in
+    let r = receiver_in_range b.receiver in
+    let l = links_in_range b.links in
     let s = not (broken b.screen) in
     let rest = and_right r (l && s) (holds e) in
     record {

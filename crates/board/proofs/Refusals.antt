@@ -4,20 +4,20 @@ use mathlib.Core.List.{[]}
 use mathlib.Core.Bool.{Bool, true, false, not, ◌&&◌}
 use Rattle.laws.proofs.Computed.{and_left, and_right, fails, holds, is_true}
 use Rattle.numbers.specs.Numbers.{told_of}
-use Rattle.line_receiver.specs.States.{in_range as receiverInRange}
+use Rattle.line_receiver.specs.States.{in_range as receiver_in_range}
 use Rattle.line_receiver.specs.Runs.{byte, on, off, ask}
 use Rattle.links_wiring.specs.declared.Module.{Module}
 use Rattle.links_wiring.specs.declared.Module.TheVariants.{Screen, Keyboard, Modem, Socket}
 use Rattle.links_hearing.specs.declared.ears.Ear.TheVariants.{Socket as from_socket}
 use Rattle.links.specs.declared.Answer.{Answer}
 use Rattle.links.specs.declared.Answer.TheVariants.{Taken, TooLarge, Broken}
-use Rattle.links.specs.States.{in_range as linksInRange}
+use Rattle.links.specs.States.{in_range as links_in_range}
 use Rattle.links.specs.Calls.{told}
-use Rattle.links.specs.Runs.{Call, key as keyCall, value, to_local as localCall, to_connected as connectedCall}
-use Rattle.links.specs.Runs.{obey as linksObey, too_large as largeCall}
+use Rattle.links.specs.Runs.{Call, key as key_call, value, to_local as local_call, to_connected as connected_call}
+use Rattle.links.specs.Runs.{obey as links_obey, too_large as call_too_large}
 use Rattle.links.proofs.Refusals.{large as links-large, taken_else}
 use Rattle.screen_page.specs.declared.Screen.{Screen as Page}
-use Rattle.screen_page.specs.Ranges.{broken as screenBroken}
+use Rattle.screen_page.specs.Ranges.{broken as screen_broken}
 use Rattle.screen.proofs.Given.{ran_none}
 use Rattle.board.specs.declared.Board.{Board}
 use Rattle.board.specs.declared.Outcome.{Outcome}
@@ -39,15 +39,15 @@ broken to_connected b i = simp i
 
 -- ---- the links' refusal is the board's
 
-links_in : (b : Board) → in_range b ≡ true → linksInRange b.links ≡ true
+links_in : (b : Board) → in_range b ≡ true → links_in_range b.links ≡ true
 unfolding in_range
 links_in b i =
-    let l = linksInRange b.links in
-    let s = not (screenBroken b.screen) in
-    is_true l (and_left l s (and_right (receiverInRange b.receiver) (l && s) (holds i)))
+    let l = links_in_range b.links in
+    let s = not (screen_broken b.screen) in
+    is_true l (and_left l s (and_right (receiver_in_range b.receiver) (l && s) (holds i)))
 
-large_call : (c : Call) (b : Board) → in_range b ≡ true → largeCall c ≡ true
-    → passing b (linksObey c b.links) ≡ refused b TooLarge
+large_call : (c : Call) (b : Board) → in_range b ≡ true → call_too_large c ≡ true
+    → passing b (links_obey c b.links) ≡ refused b TooLarge
 unfolding passing
 large_call c b i h =
     ap (passing b) (links-large c b.links (links_in b i) h)
@@ -56,15 +56,15 @@ large_call c b i h =
 
 pub large : (e : Event) (b : Board) → in_range b ≡ true → too_large e ≡ true → obey e b ≡ refused b TooLarge
 large (front h) b i t = absurd (fails (sym t) tt)
-large (key v) b i t = large_call (keyCall v) b i t
+large (key v) b i t = large_call (key_call v) b i t
 large (socket v) b i t = large_call (value from_socket v) b i t
 large to_local b i t = absurd (fails (sym t) tt)
 large to_connected b i t = absurd (fails (sym t) tt)
 
 -- ---- and else it is taken
 
-call_taken : (c : Call) (b : Board) → in_range b ≡ true → largeCall c ≡ false
-    → (passing b (linksObey c b.links)).answer ≡ Taken
+call_taken : (c : Call) (b : Board) → in_range b ≡ true → call_too_large c ≡ false
+    → (passing b (links_obey c b.links)).answer ≡ Taken
 unfolding passing
 call_taken c b i h = simp i (taken_else c b.links (links_in b i) h)
 
@@ -74,10 +74,10 @@ taken_else_here (front (byte x)) b i t = simp i
 taken_else_here (front on) b i t = simp i
 taken_else_here (front off) b i t = simp i
 taken_else_here (front ask) b i t = simp i
-taken_else_here (key v) b i t = call_taken (keyCall v) b i t
+taken_else_here (key v) b i t = call_taken (key_call v) b i t
 taken_else_here (socket v) b i t = call_taken (value from_socket v) b i t
-taken_else_here to_local b i t = call_taken localCall b i refl
-taken_else_here to_connected b i t = call_taken connectedCall b i refl
+taken_else_here to_local b i t = call_taken local_call b i refl
+taken_else_here to_connected b i t = call_taken connected_call b i refl
 
 -- ---- whatever is refused changes nothing
 

@@ -12,13 +12,13 @@ use Rattle.links_wiring.specs.Tables.{reaches}
 use Rattle.links_hearing.specs.declared.Unfinished.TheVariants.{Free}
 use Rattle.links_hearing.specs.Phrases.{Phrase, AllProper, all_values, all_flowing, Phrased}
 use Rattle.line_receiver.specs.declared.Receiver.{Receiver}
-use Rattle.line_receiver.specs.Runs.{Event as Heard, byte, on, obey as receiverObey, sent_by, sent, all_passed, all_asked}
+use Rattle.line_receiver.specs.Runs.{Event as Heard, byte, on, obey as receiver_obey, sent_by, sent, all_passed, all_asked}
 use Rattle.line_receiver.specs.Line.{blocks_for, made_of, filled, joined, Sending, through}
 use Rattle.line_receiver.proofs.Whole.{sending, unhit}
 use Rattle.links_hearing.specs.declared.ears.Ear.TheVariants.{Modem as modem}
 use Rattle.links.specs.declared.Links.{Links}
 use Rattle.links.specs.States.{unfinished}
-use Rattle.links.specs.Runs.{Call, value, obey as linksObey, given, got_from, Throughout, Says}
+use Rattle.links.specs.Runs.{Call, value, obey as links_obey, given, got_from, Throughout, Says}
 use Rattle.links.proofs.Own.{can_say}
 use Rattle.links.proofs.Through.{comes_through}
 use Rattle.board_feeding.specs.Feeding.{from_line, got}
@@ -39,7 +39,7 @@ heard_all (h ∷ hs) = ap (λ (gs : List Heard). h ∷ gs) (heard_all hs)
 calls_all : (r : Receiver) (hs : List Heard) → calls_in r (map front hs) ≡ from_line (all_passed (sent r hs))
 calls_all r [] = refl
 calls_all r (h ∷ hs) =
-    let s = receiverObey h r in
+    let s = receiver_obey h r in
     let vs = (sent_by s).passed in
     ap (λ (cs : List Call). from_line vs ++ cs) (calls_all s.next hs)
     ∙ sym (map-append (value modem) vs (all_passed (sent s.next hs)))
@@ -50,7 +50,7 @@ unfolding got
 all_through l [] = refl
 all_through l (v ∷ vs) =
     let c = value modem v in
-    ap (λ (ws : List ℕ). given l c Screen ++ ws) (all_through (linksObey c l).next vs)
+    ap (λ (ws : List ℕ). given l c Screen ++ ws) (all_through (links_obey c l).next vs)
 
 -- ---- the screen shows the values that pass, commands taken out
 

@@ -1,7 +1,7 @@
 -- A board: receiver, links and screen (01, "What the board does"). Assumes nothing.
 use Rattle.std.specs.Prelude.{Bool, ◌&&◌, not}
-use Rattle.line_receiver.specs.States.{new_receiver, in_range as receiverInRange}
-use Rattle.links.specs.States.{local_links, in_range as linksInRange}
+use Rattle.line_receiver.specs.States.{new_receiver, in_range as receiver_in_range}
+use Rattle.links.specs.States.{local_links, in_range as links_in_range}
 use Rattle.screen_page.specs.Pages.{fresh_screen}
 use Rattle.screen_page.specs.Ranges.{broken}
 use Rattle.board_front.specs.declared.Front.{Front}
@@ -17,4 +17,4 @@ front_of b = record { receiver = b.receiver; links = b.links }
 
 -- each part within "the ranges this page gives for receiver, screen or links"
 unfoldable pub in_range : Board → Bool
-in_range b = receiverInRange b.receiver && (linksInRange b.links && not (broken b.screen))
+in_range b = receiver_in_range b.receiver && (links_in_range b.links && not (broken b.screen))

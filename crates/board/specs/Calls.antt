@@ -3,14 +3,14 @@
 use Rattle.std.specs.Prelude.{cond, List, [], ℕ, replicate}
 use Rattle.line_receiver.specs.declared.Receiver.{Receiver}
 use Rattle.line_receiver.specs.declared.Stepped.{Stepped}
-use Rattle.line_receiver.specs.Calls.{stepped, switched_on as receiverOn, switched_off as receiverOff}
-use Rattle.line_receiver.specs.Calls.{asked_again as receiverAsked}
+use Rattle.line_receiver.specs.Calls.{stepped, switched_on as receiver_on, switched_off as receiver_off}
+use Rattle.line_receiver.specs.Calls.{asked_again as receiver_asked}
 use Rattle.links_sending.specs.Sending.{gets}
 use Rattle.links.specs.declared.Links.{Links}
 use Rattle.links.specs.declared.Answer.{Answer}
 use Rattle.links.specs.declared.Answer.TheVariants.{Taken, Broken}
 use Rattle.links.specs.declared.Outcome.{Outcome as LinksOutcome}
-use Rattle.links.specs.Calls.{from_keyboard, from_socket, with_local as linksLocal, with_connected as linksConnected}
+use Rattle.links.specs.Calls.{from_keyboard, from_socket, with_local as links_local, with_connected as links_connected}
 use Rattle.board_feeding.specs.declared.Shares.{Shares}
 use Rattle.board_feeding.specs.Feeding.{outlet, contents, shares_of}
 use Rattle.screen.specs.Calls.{ran}
@@ -61,13 +61,13 @@ abbrev pub at_line : Board → ℕ → Outcome
 at_line b x = following b (stepped b.receiver x)
 
 abbrev pub switched_on : Board → Outcome
-switched_on b = following b (receiverOn b.receiver)
+switched_on b = following b (receiver_on b.receiver)
 
 abbrev pub switched_off : Board → Outcome
-switched_off b = following b (receiverOff b.receiver)
+switched_off b = following b (receiver_off b.receiver)
 
 abbrev pub asked_again : Board → Outcome
-asked_again b = following b (receiverAsked b.receiver)
+asked_again b = following b (receiver_asked b.receiver)
 
 -- ---- the links' calls: what they send goes its way, and their answer is the board's
 
@@ -85,7 +85,7 @@ abbrev pub at_socket : Board → ℕ → Outcome
 at_socket b v = passing b (from_socket b.links v)
 
 abbrev pub with_local : Board → Outcome
-with_local b = passing b (linksLocal b.links)
+with_local b = passing b (links_local b.links)
 
 abbrev pub with_connected : Board → Outcome
-with_connected b = passing b (linksConnected b.links)
+with_connected b = passing b (links_connected b.links)

@@ -4,13 +4,13 @@ use Rattle.std.specs.Prelude.{◌≡◌, Bool, false, not, List, [], ◌∷◌, 
 use Rattle.numbers.specs.Numbers.{Told, told_of}
 use Rattle.line_receiver.specs.declared.Receiver.{Receiver}
 use Rattle.line_receiver.specs.States.{InReceiver}
-use Rattle.line_receiver.specs.Runs.{Event as Heard, byte, on, off, ask, obey as receiverObey, sent_by}
-use Rattle.line_receiver.specs.Runs.{run as receiverRun, sent, all_asked}
+use Rattle.line_receiver.specs.Runs.{Event as Heard, byte, on, off, ask, obey as receiver_obey, sent_by}
+use Rattle.line_receiver.specs.Runs.{run as receiver_run, sent, all_asked}
 use Rattle.links_wiring.specs.declared.Module.{Module}
 use Rattle.links_wiring.specs.declared.Module.TheVariants.{Screen, Keyboard, Modem, Socket}
 use Rattle.links_hearing.specs.declared.ears.Ear.TheVariants.{Socket as from_socket}
-use Rattle.links.specs.Runs.{Call, key as keyCall, value, to_local as localCall, to_connected as connectedCall}
-use Rattle.links.specs.Runs.{run as linksRun}
+use Rattle.links.specs.Runs.{Call, key as key_call, value, to_local as local_call, to_connected as connected_call}
+use Rattle.links.specs.Runs.{run as links_run}
 use Rattle.links.specs.Runs.{InLinks}
 use Rattle.board_feeding.specs.Feeding.{from_line, got, contents}
 use Rattle.screen_page.specs.Ranges.{InScreen}
@@ -89,11 +89,11 @@ heard_in (to_connected ∷ es) = heard_in es
 -- socket's values, and choices of a table
 abbrev pub calls_in : Receiver → List Event → List Call
 calls_in r [] = []
-calls_in r (front h ∷ es) = from_line (sent_by (receiverObey h r)).passed ++ calls_in (receiverObey h r).next es
-calls_in r (key v ∷ es) = keyCall v ∷ calls_in r es
+calls_in r (front h ∷ es) = from_line (sent_by (receiver_obey h r)).passed ++ calls_in (receiver_obey h r).next es
+calls_in r (key v ∷ es) = key_call v ∷ calls_in r es
 calls_in r (socket v ∷ es) = value from_socket v ∷ calls_in r es
-calls_in r (to_local ∷ es) = localCall ∷ calls_in r es
-calls_in r (to_connected ∷ es) = connectedCall ∷ calls_in r es
+calls_in r (to_local ∷ es) = local_call ∷ calls_in r es
+calls_in r (to_connected ∷ es) = connected_call ∷ calls_in r es
 
 -- a module to which bytes are handed out
 abbrev pub Outside : Module → Type 0
@@ -114,8 +114,8 @@ pub record InBoard (b : Board) : Type 0 where
 -- screen by what the links send it, which it takes; these bytes are handed out, and these asked of the modem
 pub record Goes (b after : Board) (hs : List Heard) (cs : List Call) (outs : Module → List ℕ) (qs : List ℕ)
     : Type 0 where
-  pub receiver : after.receiver ≡ receiverRun b.receiver hs
-  pub links : after.links ≡ linksRun b.links cs
+  pub receiver : after.receiver ≡ receiver_run b.receiver hs
+  pub links : after.links ≡ links_run b.links cs
   pub screen : after.screen ≡ (ran b.screen (got Screen b.links cs)).screen
   pub taken : (ran b.screen (got Screen b.links cs)).answer ≡ Taken
   pub handed : (m : Module) → Outside m → outs m ≡ got m b.links cs

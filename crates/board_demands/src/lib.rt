@@ -12,14 +12,14 @@ ghost use Rattle.links_replies.specs.Replies.{statuses_of};
 ghost use Rattle.links_hearing.specs.declared.Unfinished.TheVariants.{Free};
 ghost use Rattle.links_hearing.specs.Phrases.{Phrase, AllProper, all_values, all_flowing, Phrased};
 ghost use Rattle.line_phases.specs.declared.Phase.TheVariants.{Off};
-ghost use Rattle.line_receiver.specs.States.{in_range as receiverInRange};
+ghost use Rattle.line_receiver.specs.States.{in_range as receiver_in_range};
 ghost use Rattle.line_receiver.specs.Calls.{stepped};
-ghost use Rattle.line_receiver.specs.Runs.{Event as Heard, byte, on, obey as receiverObey, sent_by};
+ghost use Rattle.line_receiver.specs.Runs.{Event as Heard, byte, on, obey as receiver_obey, sent_by};
 ghost use Rattle.line_receiver.specs.Line.{made_of, filled, joined, Sending};
 ghost use Rattle.links_hearing.specs.declared.ears.Ear.{Ear};
 ghost use Rattle.links_hearing.specs.declared.ears.Ear.TheVariants.{Modem as modem, Socket as port};
 ghost use Rattle.links.specs.declared.Links.{Links};
-ghost use Rattle.links.specs.States.{unfinished, in_range as linksInRange};
+ghost use Rattle.links.specs.States.{unfinished, in_range as links_in_range};
 ghost use Rattle.links.specs.Runs.{Throughout};
 ghost use Rattle.screen_answers.specs.declared.Answer.TheVariants.{Taken as TakenByScreen};
 ghost use Rattle.screen.specs.Calls.{ran};
@@ -28,7 +28,7 @@ ghost use Rattle.links.specs.Calls.{told};
 ghost use Rattle.board_feeding.specs.Feeding.{from_line, nobody, fed, Enough};
 ghost use Rattle.board.specs.declared.Board.{Board};
 ghost use Rattle.board.specs.Boards.{fresh_board, in_range, front_of};
-ghost use Rattle.board.specs.Calls.{refused, joined as joinedOf, at_line, switched_on};
+ghost use Rattle.board.specs.Calls.{refused, joined as joined_of, at_line, switched_on};
 ghost use Rattle.board.specs.Pages.{NoCommand};
 ghost use Rattle.board.specs.Runs.{Event, front, key, socket, to_local, to_connected, obey, run, out_to, request};
 ghost use Rattle.board.specs.Runs.{handed_to, requests, heard_in, calls_in, Outside};
@@ -37,8 +37,8 @@ ghost use Rattle.board_front.specs.declared.Room.{Room};
 ghost use Rattle.board_front.specs.declared.Front.{Front};
 ghost use Rattle.board_front.specs.Ample.{Ample};
 ghost use Rattle.board_front.specs.LineBytes.{heard_by, unheard};
-ghost use Rattle.board_pieces.specs.Pieces.{told as pieceTold, lines_of, lines_told, is_taken, singly, handed, asked};
-ghost use Rattle.board_pieces.specs.Pieces.{refused as pieceRefused};
+ghost use Rattle.board_pieces.specs.Pieces.{told as piece_told, lines_of, lines_told, is_taken, singly, handed, asked};
+ghost use Rattle.board_pieces.specs.Pieces.{refused as piece_refused};
 ghost use Rattle.board_pieces.specs.declared.Answer.TheVariants.{NoRoom, Broken as PieceBroken};
 ghost use Rattle.board_pieces.specs.Noted.{noted, noted_of, noted_told, is_noted};
 ghost use Rattle.board_pieces.specs.Claims.{TakenWhole, NothingTaken, RoomFor};
@@ -59,8 +59,8 @@ pub fn each_part_goes_its_own_way()
 // host's choice gives the local or the connected table, told by the statuses of screen, keyboard, modem and socket.
 pub fn each_call_reaches_its_part()
     ensures line { (h : Heard) (b : Board) → InBoard b
-        → ((obey (front h) b).next.receiver ≡ (receiverObey h b.receiver).next)
-        × (request (obey (front h) b) ≡ (sent_by (receiverObey h b.receiver)).asked) }
+        → ((obey (front h) b).next.receiver ≡ (receiver_obey h b.receiver).next)
+        × (request (obey (front h) b) ≡ (sent_by (receiver_obey h b.receiver)).asked) }
     ensures keys { (b : Board) → InBoard b → (v : ℕ) → v < 128 → ((m : Module) → Outside m
         → out_to m (obey (key v) b) ≡ cond (reaches b.links.table Keyboard m) (v ∷ []) [])
         × ((obey (key v) b).next.screen
@@ -133,7 +133,7 @@ pub fn every_event_keeps_the_range()
 // of range, then 2 for a key or a socket's value above 127, and else 0; a line byte is never 2. After a refusal the
 // board handed in comes back, and nothing is handed out.
 pub fn each_call_gives_its_number()
-    ensures b_value { (e : Event) (b : Board) → told (obey e b).answer ≡ call_told e b }
+    ensures number { (e : Event) (b : Board) → told (obey e b).answer ≡ call_told e b }
     ensures broken { (e : Event) (b : Board) → in_range b ≡ false → obey e b ≡ refused b Broken }
     ensures large { (e : Event) (b : Board) → in_range b ≡ true → too_large e ≡ true
         → obey e b ≡ refused b TooLarge }
@@ -146,7 +146,7 @@ pub fn each_call_gives_its_number()
 // handed out there, and is as it was behind it. A piece that is not taken leaves the board and every output as they
 // were.
 pub fn a_piece_gives_its_number()
-    ensures r_value { (b : Board) (xs : List ℕ) (r : Room) → pieceTold (lines_of b xs r).answer ≡ lines_told b xs r }
+    ensures number { (b : Board) (xs : List ℕ) (r : Room) → piece_told (lines_of b xs r).answer ≡ lines_told b xs r }
     ensures room { (b : Board) (xs : List ℕ) (r : Room)
         → (is_taken b xs r ≡ true → (in_range b ≡ true) × RoomFor b xs r)
         × (in_range b ≡ true → RoomFor b xs r → is_taken b xs r ≡ true) }
@@ -166,13 +166,13 @@ pub fn such_outputs_surely_suffice()
 // it is then; where it has fewer, nothing is taken and nothing counts as written. The notes on the parts of a piece are
 // those on the whole.
 pub fn a_piece_with_notes_is_that_piece()
-    ensures n_value { (b : Board) (xs : List ℕ) (r : Room) (n : ℕ)
-        → pieceTold (noted_of b xs r n).answer ≡ noted_told b xs r n }
+    ensures number { (b : Board) (xs : List ℕ) (r : Room) (n : ℕ)
+        → piece_told (noted_of b xs r n).answer ≡ noted_told b xs r n }
     ensures places { (b : Board) (xs : List ℕ) (r : Room) (n : ℕ) → length xs ≤ n
         → (lines_of b xs r ≡ noted_of b xs r n) × (is_taken b xs r ≡ is_noted b xs r n) }
     ensures fewer { (b : Board) (xs : List ℕ) (r : Room) (n : ℕ) → n < length xs
         → (is_noted b xs r n ≡ false)
-        × ((t : Bool) → in_range b ≡ t → cond t (pieceRefused b NoRoom) (pieceRefused b PieceBroken) ≡ noted_of b xs r n) }
+        × ((t : Bool) → in_range b ≡ t → cond t (piece_refused b NoRoom) (piece_refused b PieceBroken) ≡ noted_of b xs r n) }
     ensures cut { (b : Board) → InBoard b → (xs ys : List ℕ)
         → noted b (xs ++ ys) ≡ noted b xs ++ noted (run b (singly xs)) ys }
 {}
@@ -205,14 +205,14 @@ pub fn seventy_five_places_suffice()
 // nothing; broken links take no value, and nobody gets anything, while the receiver goes on; and a value above 127 is
 // left out.
 pub fn hearing_is_the_call_without_its_number()
-    ensures x_value { (b : Board) (x : ℕ) → in_range b ≡ true → at_line b x ≡ (let h = heard_by (front_of b) x in
-        joinedOf b h.front.receiver h.front.links h.shares Taken h.request h.asked) }
-    ensures receiver { (f : Front) (x : ℕ) → receiverInRange f.receiver ≡ false → heard_by f x ≡ unheard f }
-    ensures behind { (f : Front) (x : ℕ) → linksInRange f.links ≡ false
+    ensures line { (b : Board) (x : ℕ) → in_range b ≡ true → at_line b x ≡ (let h = heard_by (front_of b) x in
+        joined_of b h.front.receiver h.front.links h.shares Taken h.request h.asked) }
+    ensures receiver { (f : Front) (x : ℕ) → receiver_in_range f.receiver ≡ false → heard_by f x ≡ unheard f }
+    ensures behind { (f : Front) (x : ℕ) → links_in_range f.links ≡ false
         → ((heard_by f x).front.links ≡ f.links) × ((heard_by f x).shares ≡ nobody)
         × ((heard_by f x).front.receiver ≡ (stepped f.receiver x).next) }
-    ensures links { (l : Links) → linksInRange l ≡ false → (vs : List ℕ)
+    ensures links { (l : Links) → links_in_range l ≡ false → (vs : List ℕ)
         → fed l vs ≡ record { links = l; shares = nobody } }
-    ensures large { (l : Links) → linksInRange l ≡ true → (v : ℕ) → 127 < v → (vs : List ℕ)
+    ensures large { (l : Links) → links_in_range l ≡ true → (v : ℕ) → 127 < v → (vs : List ℕ)
         → fed l (v ∷ vs) ≡ fed l vs }
 {}

@@ -12,7 +12,7 @@ use Rattle.laws.proofs.Computed.{fails, holds, is_true, and_left, and_right}
 use Rattle.links_wiring.specs.declared.Module.{Module}
 use Rattle.links_wiring.specs.declared.Module.TheVariants.{Screen, Keyboard, Modem, Socket}
 use Rattle.links_wiring.specs.Tables.{reaches, self_linked}
-use Rattle.links_hearing.specs.Hearing.{in_range as heldInRange}
+use Rattle.links_hearing.specs.Hearing.{in_range as held_in_range}
 use Rattle.links_hearing.specs.declared.Unfinished.{Unfinished}
 use Rattle.links_hearing.specs.declared.Unfinished.TheVariants.{Free, Escape, Pro1, Pro2, Pro2With}
 use Rattle.links_hearing.specs.declared.Unfinished.TheVariants.{Pro3, Pro3With, Pro3Both}
@@ -142,5 +142,5 @@ module _ (l : Links) (vs : List ℕ) (n : ℕ) (e : are_plain l vs ≡ true) whe
 pub as_written : (are_plain connected_links (0 ∷ 26 ∷ 28 ∷ 127 ∷ []) ≡ true) × (are_plain connected_links (27 ∷ []) ≡ false)
     × (are_plain connected_links (128 ∷ []) ≡ false)
     × (are_plain (record { table = connected_links.table; modem = Escape; socket = Free }) (65 ∷ []) ≡ false)
-unfolding are_plain in_range self_linked heldInRange
+unfolding are_plain in_range self_linked held_in_range
 as_written = (refl, refl, refl, refl)

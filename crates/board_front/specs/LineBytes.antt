@@ -4,9 +4,9 @@ use Rattle.links_wiring.specs.declared.Module.{Module}
 use Rattle.line_receiver.specs.declared.Receiver.{Receiver}
 use Rattle.line_receiver.specs.declared.Stepped.{Stepped}
 use Rattle.line_receiver.specs.Calls.{stepped}
-use Rattle.line_receiver.specs.Runs.{Event, byte, run as receiverRun, sent_by, sent, all_asked}
+use Rattle.line_receiver.specs.Runs.{Event, byte, run as receiver_run, sent_by, sent, all_asked}
 use Rattle.links.specs.declared.Links.{Links}
-use Rattle.links.specs.Runs.{Call, run as linksRun}
+use Rattle.links.specs.Runs.{Call, run as links_run}
 use Rattle.board_feeding.specs.Feeding.{from_line, got, nobody, fed}
 use Rattle.board_front.specs.declared.Front.{Front}
 use Rattle.board_front.specs.declared.Heard.{Heard}
@@ -42,7 +42,7 @@ calls r (x ∷ xs) = from_line (sent_by (stepped r x)).passed ++ calls (stepped 
 
 abbrev pub behind : Front → List ℕ → Front
 behind f xs =
-    record { receiver = receiverRun f.receiver (bytes xs); links = linksRun f.links (calls f.receiver xs) }
+    record { receiver = receiver_run f.receiver (bytes xs); links = links_run f.links (calls f.receiver xs) }
 
 abbrev pub to_each : Module → Front → List ℕ → List ℕ
 to_each m f xs = got m f.links (calls f.receiver xs)

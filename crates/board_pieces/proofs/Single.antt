@@ -12,9 +12,9 @@ use Rattle.links_wiring.specs.declared.Module.{Module}
 use Rattle.links_wiring.specs.declared.Module.TheVariants.{Screen, Keyboard, Modem, Socket}
 use Rattle.line_receiver.specs.declared.Receiver.{Receiver}
 use Rattle.line_receiver.specs.Calls.{stepped}
-use Rattle.line_receiver.specs.Runs.{Event as Heard, byte, run as receiverRun, sent_by, sent, all_asked}
+use Rattle.line_receiver.specs.Runs.{Event as Heard, byte, run as receiver_run, sent_by, sent, all_asked}
 use Rattle.links.specs.declared.Links.{Links}
-use Rattle.links.specs.Runs.{Call, run as linksRun}
+use Rattle.links.specs.Runs.{Call, run as links_run}
 use Rattle.board_feeding.specs.Feeding.{from_line, got}
 use Rattle.screen_page.specs.declared.Screen.{Screen as Page}
 use Rattle.screen.specs.Calls.{ran}
@@ -55,14 +55,14 @@ module _ (b : Board) (i : InBoard b) (xs : List ℕ) where
   yields_is : yields b xs ≡ needed (front_of b) xs
   yields_is = simp (handed_is Keyboard tt, handed_is Modem tt, handed_is Socket tt, asked_is)
 
-  pub receiver_is : (run b (singly xs)).receiver ≡ receiverRun b.receiver (bytes xs)
-  receiver_is = (apart (singly xs) b i).receiver ∙ ap (receiverRun b.receiver) (heard_singly xs)
+  pub receiver_is : (run b (singly xs)).receiver ≡ receiver_run b.receiver (bytes xs)
+  receiver_is = (apart (singly xs) b i).receiver ∙ ap (receiver_run b.receiver) (heard_singly xs)
 
   run_is : run b (singly xs) ≡ heard_whole b xs
   run_is =
       let a = apart (singly xs) b i in
       let r = receiver_is in
-      let l = a.links ∙ ap (linksRun b.links) cs in
+      let l = a.links ∙ ap (links_run b.links) cs in
       let s = a.screen ∙ ap (λ (ds : List Call). (ran b.screen (got Screen b.links ds)).screen) cs in
       ap₂ (λ (x : Receiver) (y : Links). record { receiver = x; links = y; screen = (run b (singly xs)).screen }) r l
       ∙ ap (λ (t : Page). record { receiver = (heard_whole b xs).receiver; links = (heard_whole b xs).links; screen = t }) s

@@ -12,11 +12,11 @@ use Rattle.links_wiring.specs.declared.Module.{Module}
 use Rattle.links_wiring.specs.declared.Module.TheVariants.{Screen, Keyboard, Modem, Socket}
 use Rattle.line_receiver.specs.declared.Receiver.{Receiver}
 use Rattle.links.specs.declared.Links.{Links}
-use Rattle.links.specs.Runs.{Call, run as linksRun}
+use Rattle.links.specs.Runs.{Call, run as links_run}
 use Rattle.board_feeding.specs.Feeding.{from_line, got}
 use Rattle.board_front.specs.declared.Front.{Front}
 use Rattle.board_front.specs.declared.Room.{Room}
-use Rattle.board_front.specs.LineBytes.{calls, behind as frontBehind, to_each, asks}
+use Rattle.board_front.specs.LineBytes.{calls, behind as front_behind, to_each, asks}
 use Rattle.board_front.proofs.Onwards.{calls_are, behind_append, each_append, asks_append}
 use Rattle.screen_page.specs.declared.Screen.{Screen as Page}
 use Rattle.screen.specs.Calls.{ran}
@@ -60,9 +60,9 @@ begun_none out = record { bytes = sym (none_written out 0); place = omega arith 
 -- ---- one turn more
 
 module _ (f : Front) (xs : List ℕ) (i : ℕ) (t : Turn)
-    (taken : TakenSingly (frontBehind f (take i xs)).receiver (drop i xs) t) where
+    (taken : TakenSingly (front_behind f (take i xs)).receiver (drop i xs) t) where
   abbrev here : Front
-  here = frontBehind f (take i xs)
+  here = front_behind f (take i xs)
 
   abbrev ys : List ℕ
   ys = take t.took (drop i xs)
@@ -76,11 +76,11 @@ module _ (f : Front) (xs : List ℕ) (i : ℕ) (t : Turn)
   handed_on : calls here.receiver ys ≡ from_line vs
   handed_on = calls_are here.receiver ys ∙ ap from_line (sym taken.singly.passed)
 
-  pub next_front : record { receiver = t.stepped.next; links = linksRun here.links (from_line vs) }
-      ≡ frontBehind f (take (i + t.took) xs)
+  pub next_front : record { receiver = t.stepped.next; links = links_run here.links (from_line vs) }
+      ≡ front_behind f (take (i + t.took) xs)
   next_front =
-      sym (ap (frontBehind f) cut ∙ behind_append f (take i xs) ys
-      ∙ ap₂ (λ (r : Receiver) (cs : List Call). record { receiver = r; links = linksRun here.links cs })
+      sym (ap (front_behind f) cut ∙ behind_append f (take i xs) ys
+      ∙ ap₂ (λ (r : Receiver) (cs : List Call). record { receiver = r; links = links_run here.links cs })
       (sym taken.singly.next) handed_on)
 
   pub next_each : (m : Module)
@@ -104,7 +104,7 @@ module _ (f : Front) (xs : List ℕ) (i : ℕ) (t : Turn)
 -- what is heard and handed out when the beginning ys of a piece is played
 pub record SoFar (f : Front) (ys k m s q : List ℕ) (r : Receiver) (o : Onward) (asked : ℕ) (k' m' s' q' : List ℕ)
     : Type 0 where
-  pub front : record { receiver = r; links = o.links } ≡ frontBehind f ys
+  pub front : record { receiver = r; links = o.links } ≡ front_behind f ys
   pub keyboard : Begun k (to_each Keyboard f ys) k' o.used.keyboard
   pub modem : Begun m (to_each Modem f ys) m' o.used.modem
   pub socket : Begun s (to_each Socket f ys) s' o.used.socket
@@ -119,7 +119,7 @@ module _ (f : Front) (xs : List ℕ) (i : ℕ) (t : Turn) {k m s q : List ℕ} {
   abbrev request : List ℕ
   request = take t.stepped.asked t.stepped.request
 
-  taken : TakenSingly (frontBehind f (take i xs)).receiver (drop i xs) t
+  taken : TakenSingly (front_behind f (take i xs)).receiver (drop i xs) t
   taken = subst (λ (x : Receiver). TakenSingly x (drop i xs) t) (ap (λ (g : Front). g.receiver) now.front) heard
 
   pub each : (m : Module)
@@ -144,7 +144,7 @@ module _ (f : Front) (xs : List ℕ) (i : ℕ) (t : Turn) {k m s q : List ℕ} {
       record {
         front =
             ap (λ (x : Onward). record { receiver = t.stepped.next; links = x.links }) e
-            ∙ ap (λ (x : Front). record { receiver = t.stepped.next; links = linksRun x.links (from_line values) })
+            ∙ ap (λ (x : Front). record { receiver = t.stepped.next; links = links_run x.links (from_line values) })
             now.front
             ∙ next_front f xs i t taken;
         keyboard =

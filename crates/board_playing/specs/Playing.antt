@@ -5,14 +5,14 @@ use Rattle.links_wiring.specs.declared.Module.TheVariants.{Screen, Keyboard, Mod
 use Rattle.screen.specs.Calls.{ran}
 use Rattle.board_front.specs.declared.Front.{Front}
 use Rattle.board_front.specs.declared.Room.{Room}
-use Rattle.board_front.specs.LineBytes.{behind as frontBehind, to_each, asks}
+use Rattle.board_front.specs.LineBytes.{behind as front_behind, to_each, asks}
 use Rattle.board.specs.declared.Board.{Board}
 use Rattle.board.specs.Boards.{front_of}
 use Rattle.board_playing.specs.declared.Played.{Played}
 
 abbrev pub heard_whole : Board → List ℕ → Board
 heard_whole b xs =
-    let f = frontBehind (front_of b) xs in
+    let f = front_behind (front_of b) xs in
     record {
       receiver = f.receiver;
       links = f.links;

@@ -11,7 +11,7 @@ use Rattle.block_reader.specs.Judging.{try_from, verdict, left, handed}
 use Rattle.screen_cells.specs.Characters.{good_character}
 use Rattle.screen_sheet.specs.Clearing.{cleared}
 use Rattle.screen_sheet.specs.Within.{all_good}
-use Rattle.screen_pen.specs.Pens.{good_spot, in_range as penInRange}
+use Rattle.screen_pen.specs.Pens.{good_spot, in_range as pen_in_range}
 use Rattle.screen_planning.specs.Obeying.{gone, obeyed}
 use Rattle.screen_page.specs.Pages.{fresh_screen}
 use Rattle.screen_page.specs.Ranges.{in_range, broken}
@@ -41,7 +41,7 @@ unfolding low_bits bits reduce divide ones even all_even with_parity code_bits r
 on_the_line = ((refl, refl, refl), ((refl, refl, refl), ((refl, refl, refl), tt)))
 
 on_the_screen : EachHolds screen_cards
-unfolding first_large cleared good_character all_good good_spot penInRange gone obeyed
+unfolding first_large cleared good_character all_good good_spot pen_in_range gone obeyed
     fresh_screen written written_times applied advanced advanced_by in_range broken ran
 on_the_screen = (refl, (refl, (refl, tt)))
 

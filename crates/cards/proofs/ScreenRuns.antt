@@ -5,7 +5,7 @@ use Rattle.values.specs.Large.{first_large}
 use Rattle.screen_cells.specs.Characters.{good_character}
 use Rattle.screen_sheet.specs.Clearing.{cleared}
 use Rattle.screen_sheet.specs.Within.{all_good}
-use Rattle.screen_pen.specs.Pens.{good_spot, in_range as penInRange}
+use Rattle.screen_pen.specs.Pens.{good_spot, in_range as pen_in_range}
 use Rattle.screen_planning.specs.Obeying.{gone, obeyed}
 use Rattle.screen_page.specs.Pages.{fresh_screen}
 use Rattle.screen_page.specs.Ranges.{in_range, broken}
@@ -19,42 +19,42 @@ use Rattle.cards.specs.ScreenCards.{screen_runs}
 use Rattle.cards.proofs.Computed.{each_append}
 
 on_colours : EachHolds colour_cards
-unfolding first_large cleared good_character all_good good_spot penInRange gone obeyed
+unfolding first_large cleared good_character all_good good_spot pen_in_range gone obeyed
     fresh_screen written written_times applied advanced advanced_by in_range broken ran
 on_colours = (refl, (refl, (refl, (refl, (refl, tt)))))
 
 on_attributes : EachHolds attribute_cards
-unfolding first_large cleared good_character all_good good_spot penInRange gone obeyed
+unfolding first_large cleared good_character all_good good_spot pen_in_range gone obeyed
     fresh_screen written written_times applied advanced advanced_by in_range broken ran
 on_attributes = (refl, (refl, (refl, (refl, (refl, (refl, (refl, (refl, (refl, tt)))))))))
 
 on_moves : EachHolds move_cards
-unfolding first_large cleared good_character all_good good_spot penInRange gone obeyed
+unfolding first_large cleared good_character all_good good_spot pen_in_range gone obeyed
     fresh_screen written written_times applied advanced advanced_by in_range broken ran
 on_moves = (refl, (refl, (refl, (refl, (refl, tt)))))
 
 on_row_0 : EachHolds row0_cards
-unfolding first_large cleared good_character all_good good_spot penInRange gone obeyed
+unfolding first_large cleared good_character all_good good_spot pen_in_range gone obeyed
     fresh_screen written written_times applied advanced advanced_by in_range broken ran
 on_row_0 = (refl, (refl, (refl, (refl, (refl, tt)))))
 
 on_places : EachHolds place_cards
-unfolding first_large cleared good_character all_good good_spot penInRange gone obeyed
+unfolding first_large cleared good_character all_good good_spot pen_in_range gone obeyed
     fresh_screen written written_times applied advanced advanced_by in_range broken ran
 on_places = (refl, (refl, (refl, (refl, (refl, (refl, tt))))))
 
 on_repeats : EachHolds repeat_cards
-unfolding first_large cleared good_character all_good good_spot penInRange gone obeyed
+unfolding first_large cleared good_character all_good good_spot pen_in_range gone obeyed
     fresh_screen written written_times applied advanced advanced_by in_range broken ran
 on_repeats = (refl, (refl, (refl, (refl, (refl, tt)))))
 
 on_sequences : EachHolds sequence_cards
-unfolding first_large cleared good_character all_good good_spot penInRange gone obeyed
+unfolding first_large cleared good_character all_good good_spot pen_in_range gone obeyed
     fresh_screen written written_times applied advanced advanced_by in_range broken ran
 on_sequences = (refl, (refl, (refl, (refl, (refl, (refl, (refl, tt)))))))
 
 left_open : EachHolds open_cards
-unfolding first_large cleared good_character all_good good_spot penInRange gone obeyed
+unfolding first_large cleared good_character all_good good_spot pen_in_range gone obeyed
     fresh_screen written written_times applied advanced advanced_by in_range broken ran
 left_open = (refl, (refl, (refl, (refl, (refl, (refl, (refl, (refl, tt))))))))
 

@@ -4,8 +4,9 @@
 // proofs/Removed that a value with parity passes as that value, and proofs/Seen that counting the synchronising codes
 // to two is looking at the last three bytes.
 #![tactic(auto)]
+
 ghost use Rattle.std.specs.Prelude.{◌≡◌};
-ghost use Rattle.line_codes.specs.Codes.{plainly, next, four as fourOf, request as requestFor, listened};
+ghost use Rattle.line_codes.specs.Codes.{plainly, next, four as four_of, request as request_for, listened};
 
 // What a byte makes of the waiting for a block.
 #[derive(Clone, Copy)]
@@ -35,14 +36,14 @@ pub fn next_number(number: u8) -> u8
 
 // 4/X with parity.
 fn four(number: u8) -> u8
-    ensures { result ≡ fourOf number }
+    ensures { result ≡ four_of number }
 {
     block_parity::with_parity(64 + number % 16)
 }
 
 // The request for a block: NACK and 4/X, with parity.
 pub fn request(number: u8) -> [u8; 2]
-    ensures { result ≡ requestFor number }
+    ensures { result ≡ request_for number }
 {
     let code = four(number);
     [149, code]

@@ -32,7 +32,7 @@ pub fn a_run_is_the_run_over_its_parts()
 // none, they are counted on from the number at the start. A call that is no switching moves it by the blocks accepted
 // there: by one, or not at all.
 pub fn the_number_counts_accepted_blocks()
-    ensures es_value { (r : Receiver) → InReceiver r → (es : List Event)
+    ensures counted { (r : Receiver) → InReceiver r → (es : List Event)
         → (run r es).number ≡ blocks_since r.number r es % 16 }
     ensures anew { (es : List Event) → (run new_receiver es).number ≡ blocks_since 0 new_receiver es % 16 }
     ensures moves { (r : Receiver) → InReceiver r → (e : Event) → switches e ≡ false
@@ -42,7 +42,7 @@ pub fn the_number_counts_accepted_blocks()
 // Off, a value with parity passes as that value, and a byte of odd parity as 7/F; nothing else goes out, and the state
 // stays.
 pub fn while_off_each_byte_passes_by_itself()
-    ensures v_value { (r : Receiver) → InReceiver r → r.phase ≡ Off → (v : ℕ) → v < 128
+    ensures even { (r : Receiver) → InReceiver r → r.phase ≡ Off → (v : ℕ) → v < 128
         → ((stepped r (with_parity v)).next ≡ r)
         × (sent_by (stepped r (with_parity v)) ≡ passes (v ∷ []) Nothing) }
     ensures odd { (r : Receiver) → InReceiver r → r.phase ≡ Off → (b : ℕ) → even b ≡ false
@@ -120,7 +120,7 @@ pub fn places_past_the_held_never_matter()
 // SYN, SYN, 4/j itself: a block still on its way that did would end the waiting. Lines that meet this exist: the made
 // blocks themselves, each of them valid.
 pub fn the_line_comes_through_whole()
-    ensures bs_value { (r : Receiver) → InReceiver r → (vs bs : List ℕ) → Values vs → Arrives (made_of vs) bs
+    ensures whole { (r : Receiver) → InReceiver r → (vs bs : List ℕ) → Values vs → Arrives (made_of vs) bs
         → (all_passed (sent r (on ∷ map byte bs)) ≡ filled vs) × (all_asked (sent r (on ∷ map byte bs)) ≡ []) }
     ensures asked { (vs : List ℕ) (j : ℕ) (hit : List ℕ) → Values vs → j < blocks_for vs
         → length hit ≡ 17 → NoneNear hit
@@ -144,7 +144,7 @@ pub fn the_line_comes_through_whole()
 // gone out for each of those refused, naming it. So a resent block is never taken for a new one. A valid block hit at
 // any two different bits of all 136 is so refused, and one hit once at a bit that is not mendable.
 pub fn a_resent_block_passes_once()
-    ensures bs_value { (r : Receiver) → InReceiver r → (vs bs qs : List ℕ) → Values vs → Sending 0 (made_of vs) bs qs
+    ensures once { (r : Receiver) → InReceiver r → (vs bs qs : List ℕ) → Values vs → Sending 0 (made_of vs) bs qs
         → (all_passed (sent r (on ∷ map byte bs)) ≡ filled vs) × (all_asked (sent r (on ∷ map byte bs)) ≡ qs) }
     ensures twice { (W B : List ℕ) → Valid W → Twice W B → (length B ≡ 17) × NoneNear B }
     ensures alone { (W : List ℕ) (k : ℕ) → Valid W → mendable ≤ k → k < 136

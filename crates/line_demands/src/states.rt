@@ -25,7 +25,7 @@ pub fn places_past_a_count_are_0()
 // call answers 0, and no value that it passes on is above 127. From any other state every call answers 5, sends
 // nothing and hands that very state back.
 pub fn a_broken_state_is_handed_back()
-    ensures r_value { (r : Receiver) → in_range r ≡ false → (e : Event)
+    ensures broken { (r : Receiver) → in_range r ≡ false → (e : Event)
         → ((obey e r).next ≡ r) × ((obey e r).answer ≡ 5) × (sent_by (obey e r) ≡ nothing) }
     ensures anew { InReceiver new_receiver
         × (new_receiver.phase ≡ Off) × (new_receiver.number ≡ 0) × (new_receiver.count ≡ 0) }

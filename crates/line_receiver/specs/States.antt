@@ -2,11 +2,11 @@
 use Rattle.std.specs.Prelude.{◌≡◌, Bool, true, false, not, ℕ, length, replicate}
 use Rattle.numbers.specs.Numbers.{Conditions, refusable}
 use Rattle.line_phases.specs.declared.Phase.{Phase}
-use Rattle.line_phases.specs.Phases.{at_start, in_range as allInRange}
+use Rattle.line_phases.specs.Phases.{at_start, in_range as all_in_range}
 use Rattle.line_receiver.specs.declared.Receiver.{Receiver}
 
 abbrev pub in_range : Receiver → Bool
-in_range r = allInRange r.number r.count r.phase
+in_range r = all_in_range r.number r.count r.phase
 
 -- "a state handed in lies outside the ranges this page gives"; "In the receiver a repeat is a request: the call
 -- answers 0"

@@ -1,12 +1,12 @@
 // The request for the block awaited, when it is refused and when the host asks again.
 ghost use Rattle.std.specs.Prelude.{◌≡◌, []};
-ghost use Rattle.line_codes.specs.Codes.{request as requestFor};
+ghost use Rattle.line_codes.specs.Codes.{request as request_for};
 ghost use Rattle.line_receiver.specs.Calls.{giving, asking};
 
 use crate::{Judged, Receiver, Stepped};
 
 pub(crate) fn ask(next: Receiver, judged: Judged) -> Stepped
-    ensures { result ≡ giving 0 next [] (requestFor next.number) judged }
+    ensures { result ≡ giving 0 next [] (request_for next.number) judged }
 {
     let request = line_codes::request(next.number);
     Stepped {

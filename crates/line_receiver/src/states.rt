@@ -1,6 +1,6 @@
 // States: whether one lies within its ranges, and one with nothing held.
 ghost use Rattle.std.specs.Prelude.{◌≡◌};
-ghost use Rattle.line_receiver.specs.States.{in_range, emptied as emptiedState};
+ghost use Rattle.line_receiver.specs.States.{in_range, emptied as emptied_state};
 
 use crate::{Phase, Receiver};
 
@@ -12,7 +12,7 @@ pub fn in_range(r: Receiver) -> bool
 }
 
 pub(crate) fn emptied(number: u8, phase: Phase) -> Receiver
-    ensures { result ≡ emptiedState number phase }
+    ensures { result ≡ emptied_state number phase }
 {
     Receiver {
         held: [0; 17],

@@ -1,6 +1,6 @@
 // What a byte does while the receiver is on.
 ghost use Rattle.std.specs.Prelude.{◌≡◌};
-ghost use Rattle.line_receiver.specs.Calls.{accepts as acceptsAs, judged_held, collecting, listening};
+ghost use Rattle.line_receiver.specs.Calls.{accepts as accepts_as, judged_held, collecting, listening};
 
 use crate::outcomes::silent;
 use crate::requests::ask;
@@ -11,7 +11,7 @@ use line_codes::Listened;
 
 // Whether a block is accepted: clean or mended.
 fn accepts(verdict: Verdict) -> bool
-    ensures { result ≡ acceptsAs verdict }
+    ensures { result ≡ accepts_as verdict }
 {
     match verdict {
         Verdict::Clean => true,

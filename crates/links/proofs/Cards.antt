@@ -3,7 +3,7 @@ use mathlib.Core.Path.{refl}
 use mathlib.Core.List.{List, [], ◌∷◌, ◌++◌}
 use Rattle.links_wiring.specs.Tables.{self_linked}
 use Rattle.links_replies.specs.Replies.{status_of, reply_of}
-use Rattle.links_hearing.specs.Hearing.{heard, in_range as sequenceInRange}
+use Rattle.links_hearing.specs.Hearing.{heard, in_range as sequence_in_range}
 use Rattle.links_changes.specs.Linking.{linked}
 use Rattle.links_sending.specs.Sending.{obeyed}
 use Rattle.links.specs.States.{in_range}
@@ -12,47 +12,47 @@ use Rattle.links.specs.Cards.{LinkCard, EachHolds, asking, setting, clearing, se
 use Rattle.links.specs.Cards.{flowing, chosen, refusals, together, link_cards}
 
 on_asking : EachHolds asking
-unfolding self_linked status_of reply_of heard sequenceInRange linked obeyed in_range choosing taking from_ear from_keyboard
+unfolding self_linked status_of reply_of heard sequence_in_range linked obeyed in_range choosing taking from_ear from_keyboard
 on_asking = (refl, (refl, (refl, (refl, tt))))
 
 on_setting : EachHolds setting
-unfolding self_linked status_of reply_of heard sequenceInRange linked obeyed in_range choosing taking from_ear from_keyboard
+unfolding self_linked status_of reply_of heard sequence_in_range linked obeyed in_range choosing taking from_ear from_keyboard
 on_setting = (refl, (refl, (refl, (refl, (refl, (refl, tt))))))
 
 on_clearing : EachHolds clearing
-unfolding self_linked status_of reply_of heard sequenceInRange linked obeyed in_range choosing taking from_ear from_keyboard
+unfolding self_linked status_of reply_of heard sequence_in_range linked obeyed in_range choosing taking from_ear from_keyboard
 on_clearing = (refl, (refl, (refl, (refl, (refl, tt)))))
 
 on_selves : EachHolds selves
-unfolding self_linked status_of reply_of heard sequenceInRange linked obeyed in_range choosing taking from_ear from_keyboard
+unfolding self_linked status_of reply_of heard sequence_in_range linked obeyed in_range choosing taking from_ear from_keyboard
 on_selves = (refl, (refl, tt))
 
 on_unknown : EachHolds unknown
-unfolding self_linked status_of reply_of heard sequenceInRange linked obeyed in_range choosing taking from_ear from_keyboard
+unfolding self_linked status_of reply_of heard sequence_in_range linked obeyed in_range choosing taking from_ear from_keyboard
 on_unknown = (refl, (refl, (refl, (refl, (refl, (refl, (refl, (refl, tt))))))))
 
 on_pairs : EachHolds pairs
-unfolding self_linked status_of reply_of heard sequenceInRange linked obeyed in_range choosing taking from_ear from_keyboard
+unfolding self_linked status_of reply_of heard sequence_in_range linked obeyed in_range choosing taking from_ear from_keyboard
 on_pairs = (refl, (refl, (refl, (refl, (refl, tt)))))
 
 on_apart : EachHolds apart
-unfolding self_linked status_of reply_of heard sequenceInRange linked obeyed in_range choosing taking from_ear from_keyboard
+unfolding self_linked status_of reply_of heard sequence_in_range linked obeyed in_range choosing taking from_ear from_keyboard
 on_apart = (refl, (refl, (refl, (refl, (refl, (refl, tt))))))
 
 on_keys : EachHolds typed
-unfolding self_linked status_of reply_of heard sequenceInRange linked obeyed in_range choosing taking from_ear from_keyboard
+unfolding self_linked status_of reply_of heard sequence_in_range linked obeyed in_range choosing taking from_ear from_keyboard
 on_keys = (refl, (refl, tt))
 
 on_flowing : EachHolds flowing
-unfolding self_linked status_of reply_of heard sequenceInRange linked obeyed in_range choosing taking from_ear from_keyboard
+unfolding self_linked status_of reply_of heard sequence_in_range linked obeyed in_range choosing taking from_ear from_keyboard
 on_flowing = (refl, (refl, (refl, tt)))
 
 on_choosing : EachHolds chosen
-unfolding self_linked status_of reply_of heard sequenceInRange linked obeyed in_range choosing taking from_ear from_keyboard
+unfolding self_linked status_of reply_of heard sequence_in_range linked obeyed in_range choosing taking from_ear from_keyboard
 on_choosing = (refl, (refl, (refl, (refl, (refl, (refl, tt))))))
 
 on_refusals : EachHolds refusals
-unfolding self_linked status_of reply_of heard sequenceInRange linked obeyed in_range choosing taking from_ear from_keyboard
+unfolding self_linked status_of reply_of heard sequence_in_range linked obeyed in_range choosing taking from_ear from_keyboard
 on_refusals = (refl, (refl, (refl, (refl, (refl, tt)))))
 
 -- ---- all of them

@@ -13,7 +13,7 @@ use Rattle.links_wiring.specs.Tables.{local_table, connected_table, self_linked,
 use Rattle.links_wiring.proofs.Selves.{tested as selves-tested, passed as selves-passed}
 use Rattle.links_wiring.proofs.Selves.{local_none, connected_none}
 use Rattle.links_hearing.specs.declared.Unfinished.{Unfinished}
-use Rattle.links_hearing.specs.Hearing.{codes_of, in_range as sequenceInRange, heard}
+use Rattle.links_hearing.specs.Hearing.{codes_of, in_range as sequence_in_range, heard}
 use Rattle.links_hearing.proofs.Ranges.{tested as codes-tested, passed as codes-passed, kept as codes-kept}
 use Rattle.links_sending.proofs.Getting.{still_none_itself}
 use Rattle.links.specs.declared.Links.{Links}
@@ -37,8 +37,8 @@ pub tested : (l : Links) → in_range l ≡ true → InLinks l
 unfolding in_range
 tested l e =
     let self = not (self_linked l.table) in
-    let line = sequenceInRange l.modem in
-    let port = sequenceInRange l.socket in
+    let line = sequence_in_range l.modem in
+    let port = sequence_in_range l.socket in
     let rest = and_right self (line && port) (holds e) in
     record {
       none_itself =
@@ -46,7 +46,7 @@ tested l e =
       small = small (is_true line (and_left line port rest)) (is_true port (and_right line port rest));
     }
   where
-    small : sequenceInRange l.modem ≡ true → sequenceInRange l.socket ≡ true → (e : Ear)
+    small : sequence_in_range l.modem ≡ true → sequence_in_range l.socket ≡ true → (e : Ear)
         → Values (codes_of (unfinished l e))
     small a b modem = codes-tested l.modem a
     small a b socket = codes-tested l.socket b

@@ -4,7 +4,7 @@ use Rattle.links_wiring.specs.declared.Table.{Table}
 use Rattle.links_wiring.specs.Tables.{self_linked, local_table, connected_table}
 use Rattle.links_hearing.specs.declared.Unfinished.{Unfinished}
 use Rattle.links_hearing.specs.declared.Unfinished.TheVariants.{Free}
-use Rattle.links_hearing.specs.Hearing.{in_range as sequenceInRange}
+use Rattle.links_hearing.specs.Hearing.{in_range as sequence_in_range}
 use Rattle.links.specs.declared.Links.{Links}
 use Rattle.links_hearing.specs.declared.ears.Ear.{Ear}
 use Rattle.links_hearing.specs.declared.ears.Ear.TheVariants.{Modem as modem, Socket as socket}
@@ -32,4 +32,4 @@ left l socket t u = record { table = t; modem = l.modem; socket = u }
 -- "each of the two has its own unfinished sequence: in range it is ..", each code at most 127; and "A module is never
 -- linked to itself"
 unfoldable pub in_range : Links → Bool
-in_range l = not (self_linked l.table) && (sequenceInRange l.modem && sequenceInRange l.socket)
+in_range l = not (self_linked l.table) && (sequence_in_range l.modem && sequence_in_range l.socket)

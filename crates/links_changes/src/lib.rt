@@ -5,7 +5,7 @@
 #![tactic(auto)]
 
 ghost use Rattle.std.specs.Prelude.{◌≡◌};
-ghost use Rattle.links_wiring.specs.Modules.{place_of, same as sameAs};
+ghost use Rattle.links_wiring.specs.Modules.{place_of, same as same_as};
 ghost use Rattle.links_changes.specs.Linking.{marking, with_row, linked, table_after};
 
 use links_commands::Order;
@@ -24,7 +24,7 @@ fn place(m: Module) -> u8
 }
 
 fn same(a: Module, b: Module) -> bool
-    ensures { result ≡ sameAs a b }
+    ensures { result ≡ same_as a b }
 {
     place(a) == place(b)
 }

@@ -44,7 +44,7 @@ pub fn esc_goes_with_its_next_code()
 // all but the commands, in order and complete. Whatever is said is phrases, and then the beginning of one; and while
 // the modem says values by themselves, it stays linked to the screen.
 pub fn all_but_the_commands_comes_through()
-    ensures cs_value { (e : Ear) (l : Links) (cs : List Call) (m : Module) (ps : List Phrase) (u : Unfinished)
+    ensures flows { (e : Ear) (l : Links) (cs : List Call) (m : Module) (ps : List Phrase) (u : Unfinished)
         → Says e l cs (all_values ps ++ codes_of u) → AllProper ps → Throughout (name_of e) m l cs
         → got_from e m l cs ≡ all_flowing ps }
     ensures phrased { (vs : List ℕ) → Phrased vs }

@@ -16,7 +16,7 @@ ghost use Rattle.links.specs.Runs.{Call, key, value, to_local, to_connected, obe
 // A call's number, and the place that it names, come of the paper's conditions in their order: 5 for a broken state,
 // then 2 for a value above 127, and else 0. After a refusal the state handed in comes back, and nothing is sent.
 pub fn each_call_gives_its_number()
-    ensures l_value { (c : Call) (l : Links) → told (obey c l).answer ≡ call_told c l }
+    ensures number { (c : Call) (l : Links) → told (obey c l).answer ≡ call_told c l }
     ensures broken { (c : Call) (l : Links) → in_range l ≡ false → obey c l ≡ refused l Broken }
     ensures large { (c : Call) (l : Links) → in_range l ≡ true → too_large c ≡ true
         → obey c l ≡ refused l TooLarge }

@@ -6,7 +6,7 @@
 
 ghost use Rattle.std.specs.Prelude.{◌≡◌, cond, []};
 ghost use Rattle.links_replies.specs.Replies.{reply_of};
-ghost use Rattle.links_sending.specs.Sending.{packed, to as toThose, nowhere as nowhereMarked, silence as silenceSent};
+ghost use Rattle.links_sending.specs.Sending.{packed, to as to_those, nowhere as nowhere_marked, silence as silence_sent};
 ghost use Rattle.links_sending.specs.Sending.{only_to, receivers_for, bytes_for, obeyed};
 
 use links_commands::Order;
@@ -80,7 +80,7 @@ fn codes(table: Table, order: Order) -> Bytes
 
 // No receiver.
 fn nowhere() -> Row
-    ensures { result ≡ nowhereMarked }
+    ensures { result ≡ nowhere_marked }
 {
     Row {
         screen: false,
@@ -132,7 +132,7 @@ fn given(marked: bool, bytes: Bytes) -> Bytes
 
 // The same bytes to each receiver that a row marks.
 fn to(those: Row, bytes: Bytes) -> Sent
-    ensures { result ≡ toThose those bytes }
+    ensures { result ≡ to_those those bytes }
 {
     let screen = given(those.screen, bytes);
     let keyboard = given(those.keyboard, bytes);
@@ -148,7 +148,7 @@ fn to(those: Row, bytes: Bytes) -> Sent
 
 // Nothing to anybody.
 pub fn silence() -> Sent
-    ensures { result ≡ silenceSent }
+    ensures { result ≡ silence_sent }
 {
     to(nowhere(), none())
 }

@@ -4,6 +4,7 @@
 // with the answer: a broken state, or a value above 127, is refused and changes nothing. specs/Screens says what one
 // value does to a screen, specs/Calls what each call answers and hands back; proofs/ holds their laws.
 #![tactic(auto)]
+
 ghost use Rattle.std.specs.Prelude.{◌≡◌};
 ghost use Rattle.screen.specs.Calls.{stepped, ran};
 

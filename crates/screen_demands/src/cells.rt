@@ -5,6 +5,6 @@ ghost use Rattle.screen_cells.specs.Cells.{blank_of, same_cell, is_blank};
 
 // Cells are found the same exactly where they are equal, in every part; and blank exactly where they are the blank cell.
 pub fn the_same_cell_is_an_equal_cell()
-    ensures c_value { (c d : Cell) → (same_cell c d ≡ true → c ≡ d) × (c ≡ d → same_cell c d ≡ true) }
+    ensures equal { (c d : Cell) → (same_cell c d ≡ true → c ≡ d) × (c ≡ d → same_cell c d ≡ true) }
     ensures blank { (c : Cell) → (is_blank c ≡ true → c ≡ blank_of) × (c ≡ blank_of → is_blank c ≡ true) }
 {}

@@ -28,7 +28,7 @@ ghost use Rattle.screen.specs.Claims.{onwards, Among, ended, addressing, Starts}
 // after REP, at most the first n minus 64 places from the cursor in writing order; and FF with no SEP open, which keeps
 // row 0 and blanks every other cell. Every other cell, by row and column, is what it was.
 pub fn only_characters_and_ff_change_a_cell()
-    ensures b_value { (s : Screen) → InScreen s → (b : ℕ) → b ≤ 127 → stepped s b ≡ steps_to (advanced s b) Taken }
+    ensures steps { (s : Screen) → InScreen s → (b : ℕ) → b ≤ 127 → stepped s b ≡ steps_to (advanced s b) Taken }
     ensures others { (s : Screen) → InScreen s → (b : ℕ) (x : Place) → On x
         → clears s.pen.sequence b ≡ false
         → (Among x (onwards (writes s.pen.sequence b) s.pen.here.place) → ⊥)
@@ -71,7 +71,7 @@ pub fn rep_is_single_characters()
 // The last character is changed by a written character alone, and then is that one: REP writes it, and leaves it. Only a
 // fresh screen has none: once there is one, no call leaves none.
 pub fn only_a_written_character_becomes_the_last()
-    ensures b_value { (s : Screen) (b : ℕ) → (advanced s b).pen.last ≡ last_after s.pen (ordered s.pen b) }
+    ensures last { (s : Screen) (b : ℕ) → (advanced s b).pen.last ≡ last_after s.pen (ordered s.pen b) }
     ensures anew { fresh_screen.pen.last ≡ Never }
     ensures stays { (s : Screen) → (s.pen.last ≡ Never → ⊥)
         → ((b : ℕ) → (stepped s b).screen.pen.last ≡ Never → ⊥)
@@ -105,7 +105,7 @@ pub fn us_starts_at_its_place_or_changes_nothing()
 // except after SEP, which drops one code, whatever it is.
 pub fn a_c0_code_ends_a_sequence()
     ensures nul { (s : Screen) → advanced s 0 ≡ s }
-    ensures b_value { (s : Screen) (b : ℕ) → (s.pen.sequence ≡ Separator → ⊥) → 1 ≤ b → b ≤ 31
+    ensures ended { (s : Screen) (b : ℕ) → (s.pen.sequence ≡ Separator → ⊥) → 1 ≤ b → b ≤ 31
         → advanced s b ≡ advanced (ended s) b }
     ensures separated { (s : Screen) (b : ℕ) → s.pen.sequence ≡ Separator → 1 ≤ b
         → advanced s b ≡ ended s }
@@ -116,7 +116,7 @@ pub fn a_c0_code_ends_a_sequence()
 // none waiting; LF in row 0 brings back what was kept; every other value leaves both. A G0 space or any G1 character
 // takes a ground, and nothing else does.
 pub fn a_waiting_ground_has_one_fate()
-    ensures b_value { (s : Screen) (b : ℕ)
+    ensures fate { (s : Screen) (b : ℕ)
         → (advanced s b).pen.here.attributes.zone ≡ outcome s.pen (fate s.pen (ordered s.pen b)) }
     ensures takers { (c : Character) → takes c ≡ true → (c.set ≡ 1) ⊎ ((c.set ≡ 0) × (c.code ≡ 32)) }
     ensures taken { ((d : ℕ) → takes (character 1 d) ≡ true) × (takes (character 0 32) ≡ true) }

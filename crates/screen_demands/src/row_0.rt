@@ -21,7 +21,7 @@ pub fn no_move_crosses_into_row_0()
 // attributes, with what waits, are those just before the US, and no cell changes at the LF. Values that meet this
 // exist: a letter and CR on a fresh screen.
 pub fn lf_returns_from_row_0()
-    ensures f_value { (s : Screen) (i j c : ℕ) (bs : List ℕ) → (s.pen.sequence ≡ Separator → ⊥)
+    ensures returns { (s : Screen) (i j c : ℕ) (bs : List ℕ) → (s.pen.sequence ≡ Separator → ⊥)
         → 1 ≤ s.pen.here.place.row → 65 ≤ c → c ≤ 104
         → let e = advanced_by s (entering_row0 i j c) in let f = advanced_by e bs in
         StaysInRow0 e bs → (f.pen.sequence ≡ Separator → ⊥)

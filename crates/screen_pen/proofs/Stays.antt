@@ -6,7 +6,7 @@ use Rattle.laws.proofs.Computed.{each}
 use Rattle.screen_cursor.specs.Places.{on_screen}
 use Rattle.screen_cursor.proofs.Tested.{on_true, true_on, home_on}
 use Rattle.screen_motion.proofs.Stays.{right_on}
-use Rattle.screen_sequences.specs.Sequences.{in_range as goodSequence}
+use Rattle.screen_sequences.specs.Sequences.{in_range as good_sequence}
 use Rattle.screen_cells.specs.declared.Character.{Character}
 use Rattle.screen_cells.specs.Characters.{InCharacter}
 use Rattle.screen_cells.specs.Cells.{InCell}
@@ -55,7 +55,7 @@ pen_true p h =
 pub true_pen : (p : Pen) → in_range p ≡ true → InPen p
 unfolding in_range
 true_pen p e =
-    let t = each (good_spot p.here ∷ good_spot p.kept ∷ good_last p.last ∷ goodSequence p.sequence ∷ []) e in
+    let t = each (good_spot p.here ∷ good_spot p.kept ∷ good_last p.last ∷ good_sequence p.sequence ∷ []) e in
     record {
       here = true_spot p.here t.0;
       kept = true_spot p.kept t.1.0;

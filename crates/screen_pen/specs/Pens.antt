@@ -2,7 +2,7 @@
 use Rattle.std.specs.Prelude.{◌≡◌, Bool, true, false, ◌&&◌}
 use Rattle.screen_cursor.specs.Places.{home, on_screen, On}
 use Rattle.screen_sequences.specs.declared.Sequence.TheVariants.{Free}
-use Rattle.screen_sequences.specs.Sequences.{in_range as goodSequence}
+use Rattle.screen_sequences.specs.Sequences.{in_range as good_sequence}
 use Rattle.screen_cells.specs.Characters.{good_character, InCharacter}
 use Rattle.screen_attributes.specs.Attributing.{start_of}
 use Rattle.screen_attributes.specs.Within.{good, InForce}
@@ -31,7 +31,7 @@ good_spot s = on_screen s.place && good s.attributes
 
 -- "cursor and kept place on the screen; an unfinished sequence that the rules below leave open"
 unfoldable pub in_range : Pen → Bool
-in_range p = good_spot p.here && (good_spot p.kept && (good_last p.last && goodSequence p.sequence))
+in_range p = good_spot p.here && (good_spot p.kept && (good_last p.last && good_sequence p.sequence))
 
 abbrev pub InLast : Last → Type 0
 InLast Never = Unit {0}
@@ -45,4 +45,4 @@ pub record InPen (p : Pen) : Type 0 where
   pub here : InSpot p.here
   pub kept : InSpot p.kept
   pub last : InLast p.last
-  pub sequence : goodSequence p.sequence ≡ true
+  pub sequence : good_sequence p.sequence ≡ true

@@ -8,7 +8,7 @@
 
 ghost use Rattle.std.specs.Prelude.{◌≡◌};
 ghost use Rattle.screen_pen.specs.Pens.{fresh_pen};
-ghost use Rattle.screen_pen.specs.Strokes.{stroke as strokeOf};
+ghost use Rattle.screen_pen.specs.Strokes.{stroke as stroke_of};
 
 use screen_attributes::Attributes;
 use screen_cells::{Cell, Character};
@@ -66,7 +66,7 @@ impl Pen {
 
     // One character at the cursor: with the attributes of the moment, and the cursor moves right.
     pub fn write(self, character: Character) -> Stroke
-        ensures { result ≡ strokeOf self character }
+        ensures { result ≡ stroke_of self character }
     {
         let written = screen_writing::write(self.here.attributes, character);
         let cell = written.cell;

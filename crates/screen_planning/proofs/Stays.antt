@@ -18,7 +18,7 @@ use Rattle.screen_sequences.specs.declared.Order.{Order}
 use Rattle.screen_sequences.specs.declared.Order.TheVariants.{Skip, Left, Right, Up, Down, First, Clear, Home}
 use Rattle.screen_sequences.specs.declared.Order.TheVariants.{ShiftOut, ShiftIn, Show, Hide, Pair, Go, Write}
 use Rattle.screen_sequences.specs.declared.Order.TheVariants.{Second, Again}
-use Rattle.screen_sequences.specs.Sequences.{in_range as goodSequence, heard}
+use Rattle.screen_sequences.specs.Sequences.{in_range as good_sequence, heard}
 use Rattle.screen_sequences.proofs.Stays.{InOrder, heard_in}
 use Rattle.screen_cells.specs.Characters.{InCharacter}
 use Rattle.screen_attributes.specs.declared.Attributes.{Attributes}
@@ -48,7 +48,7 @@ place_in h k = here_in h (record { place = k; attributes = h.here.attributes })
 attributes_in : {p : Pen} {a : Attributes} → InPen p → InForce a → InPen (with_attributes p a)
 attributes_in h k = here_in h (record { place = h.here.place; attributes = k })
 
-sequence_in : {p : Pen} (q : Sequence) → InPen p → goodSequence q ≡ true → InPen (with_sequence p q)
+sequence_in : {p : Pen} (q : Sequence) → InPen p → good_sequence q ≡ true → InPen (with_sequence p q)
 sequence_in q h k = record { here = h.here; kept = h.kept; last = h.last; sequence = k }
 
 -- ---- orders

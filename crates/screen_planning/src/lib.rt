@@ -7,7 +7,7 @@
 #![tactic(auto)]
 
 ghost use Rattle.std.specs.Prelude.{◌≡◌};
-ghost use Rattle.screen_planning.specs.Planning.{plan as planFor};
+ghost use Rattle.screen_planning.specs.Planning.{plan as plan_for};
 
 mod changing;
 mod orders;
@@ -35,7 +35,7 @@ pub struct Planned {
 
 // One value. A pen out of range, or a value above 127: the pen comes back, and nothing is asked.
 pub fn plan(pen: Pen, value: u8) -> Planned
-    ensures { result ≡ planFor pen value }
+    ensures { result ≡ plan_for pen value }
 {
     if 127 < value {
         return keep_cells(pen);

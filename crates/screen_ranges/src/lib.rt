@@ -4,7 +4,7 @@
 #![tactic(auto)]
 
 ghost use Rattle.std.specs.Prelude.{◌≡◌};
-ghost use Rattle.screen_sequences.specs.Sequences.{in_range as goodSequence};
+ghost use Rattle.screen_sequences.specs.Sequences.{in_range as good_sequence};
 ghost use Rattle.screen_attributes.specs.Within.{good_waiting, good_zone, good};
 ghost use Rattle.screen_pen.specs.Pens.{good_last, good_spot, in_range};
 
@@ -54,7 +54,7 @@ fn attributes_in_range(attributes: Attributes) -> bool
 
 // Whether the rules leave such a sequence unfinished.
 fn sequence_in_range(sequence: Sequence) -> bool
-    ensures { result ≡ goodSequence sequence }
+    ensures { result ≡ good_sequence sequence }
 {
     match sequence {
         Sequence::Free => true,

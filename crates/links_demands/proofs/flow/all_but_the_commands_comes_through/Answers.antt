@@ -5,7 +5,7 @@ use Rattle.links_demands.proofs.flow.all_but_the_commands_comes_through.Goals as
 
 pub returns : goal.returns
 returns c = record {
-  cs_value = comes_through;
+  flows = comes_through;
   phrased = phrased;
   met = stays_linked;
 }

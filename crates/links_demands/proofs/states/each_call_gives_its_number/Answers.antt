@@ -4,7 +4,7 @@ use Rattle.links_demands.proofs.states.each_call_gives_its_number.Goals as goal
 
 pub returns : goal.returns
 returns c = record {
-  l_value = numbers;
+  number = numbers;
   broken = broken;
   large = large;
 }

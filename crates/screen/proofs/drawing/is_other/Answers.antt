@@ -12,11 +12,7 @@ use Rattle.screen_sequences.specs.declared.Sequence.TheVariants.{Single, Address
 use Rattle.screen_sequences.specs.Sequences.{is_free}
 use Rattle.screen_sequences.specs.contracts.Sequence.{the_type}
 use Rattle.screen.specs.Others.{is_other}
-use Rattle.screen.proofs.drawing.is_other.Statement.{statement}
-use Rattle.screen.proofs.drawing.is_other.Tie as tie
-
-enum_told : tie.Need-enum-told
-enum_told c = search rules
+use Rattle.screen.proofs.drawing.is_other.Goals as goal
 
 -- the eight sequences that are unfinished
 abbrev others : List ℕ
@@ -33,13 +29,10 @@ unfinished Single h = refl
 unfinished Address h = refl
 unfinished (Row r) h = refl
 
-returns : tie.Need-returns
+pub returns-in_default : goal.returns-in_default
 unfolding is_other
-returns c = simp (unfinished c.before.args.pen.sequence c.match.keys2)
+returns-in_default c = simp (unfinished c.args.pen.sequence c.in-Free.keys2)
 
-returns-2 : tie.Need-returns-2
+pub returns : goal.returns
 unfolding is_other
-returns-2 c = simp c.enum_told.given.1
-
-pub is_other_spec : {M : Type 1} → statement M
-is_other_spec = tie.close (tie.spec enum_told returns returns-2)
+returns c = simp c.in-Free.is
