@@ -96,17 +96,19 @@ pub(crate) fn complain(err: Stderr, name: &[u8], template: &[u8], numbers: &[u64
     say(err, b"replay: ", name, template, numbers);
 }
 
-// Tells a fault of a file, or of what else is named, as the system says it: in its words, without its number of the
-// error.
+// What the system says of an error: its words, without the number that std puts behind them.
+fn words(said: &InlineText<128>) -> &[u8] {
+    let text = said.as_str();
+    let end = text.find(" (os error ").unwrap_or(text.len());
+    first(text.as_bytes(), end)
+}
+
+// Tells a fault of a file, or of what else is named, as the system says it.
 pub(crate) fn fail(err: Stderr, name: &[u8], error: Error) {
     let said = InlineText::<128>::of(error);
-    let words = match said.as_str().split_once(" (os error ") {
-        Some((words, _)) => words,
-        None => said.as_str(),
-    };
     let mut template = [0u8; 132];
     let begun = add(b": ", &mut template, 0);
-    let ended = add(words.as_bytes(), &mut template, begun);
+    let ended = add(words(&said), &mut template, begun);
     let used = add(b"\n", &mut template, ended);
     complain(err, name, first(&template, used), &[]);
 }
