@@ -97,10 +97,11 @@ pub(crate) fn complain(err: Stderr, name: &[u8], template: &[u8], numbers: &[u64
 }
 
 // What the system says of an error: its words, without the number that std puts behind them.
-fn words(said: &InlineText<128>) -> &[u8] {
-    let text = said.as_str();
-    let end = text.find(" (os error ").unwrap_or(text.len());
-    first(text.as_bytes(), end)
+fn words(said: &str) -> &str {
+    match said.find(" (os error ") {
+        Some(end) => &said[..end],
+        None => said,
+    }
 }
 
 // Tells a fault of a file, or of what else is named, as the system says it.
@@ -108,7 +109,7 @@ pub(crate) fn fail(err: Stderr, name: &[u8], error: Error) {
     let said = InlineText::<128>::of(error);
     let mut template = [0u8; 132];
     let begun = add(b": ", &mut template, 0);
-    let ended = add(words(&said), &mut template, begun);
+    let ended = add(words(said.as_str()).as_bytes(), &mut template, begun);
     let used = add(b"\n", &mut template, ended);
     complain(err, name, first(&template, used), &[]);
 }

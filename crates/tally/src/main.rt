@@ -137,13 +137,18 @@ fn wanted(rt: &impl Env) -> u64 {
     }
 }
 
-// Tells on standard error that standard output failed, in the system's words, without its number of the error.
+// What the system says of an error: its words, without the number that std puts behind them.
+fn words(said: &str) -> &str {
+    match said.find(" (os error ") {
+        Some(end) => &said[..end],
+        None => said,
+    }
+}
+
+// Tells on standard error that standard output failed.
 fn tell_fault(rt: &impl Eprint, error: io::Error) {
-    let text = InlineText::<128>::of(error);
-    let words = match text.as_str().split_once(" (os error ") {
-        Some((words, _)) => words,
-        None => text.as_str(),
-    };
+    let said = InlineText::<128>::of(error);
+    let words = words(said.as_str());
     let _ = eprintln!(rt; "tally: standard output: {words}");
 }
 
