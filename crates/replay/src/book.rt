@@ -3,7 +3,7 @@
 ghost use Rattle.std.specs.Prelude.{◌≤◌, length};
 
 use crate::numbers::{difference, further, grown, sum};
-use crate::texts::{Gathered, byte_at, flush, gather, tell};
+use crate::texts::{Gathered, Streams, byte_at, flush, gather, tell};
 use line_receiver::{Phase, Receiver};
 
 // The notes that `board_pieces::lines_noted` gives: of a byte that is only held; of the last byte of a block, by its
@@ -61,21 +61,22 @@ pub(crate) fn begun() -> Book {
 // Enters a portion that the board took: a note of each of its bytes, the requests that came of it, and the receiver
 // before it. All that is told of it is written then, so that it stands before what standard error says of the next.
 pub(crate) fn enter_all(
+    streams: Streams,
     begun: Book,
     before: Receiver,
     portion: &[u8],
     notes: &[u8],
     requests: &[u8],
 ) -> Book {
-    let mut text = io::buffer();
+    let mut text = [0u8; 4096];
     let held = before.held;
     let mut book = begun;
     let mut i = after_held(notes, 0);
     while i < notes.len() {
-        book = enter(book, i, &held, portion, notes, requests, &mut text);
+        book = enter(streams, book, i, &held, portion, notes, requests, &mut text);
         i = after_held(notes, i + 1);
     }
-    let told = flush(&text, book.told);
+    let told = flush(streams, &text, book.told);
     book.told = told;
     book.asked = 0;
     book.read = grown(book.read, portion.len());
@@ -96,6 +97,7 @@ fn after_held(notes: &[u8], from: usize) -> usize
 
 // Enters the byte at a place of its portion.
 fn enter(
+    streams: Streams,
     book: Book,
     at: usize,
     held: &[u8],
@@ -107,14 +109,14 @@ fn enter(
     let note = byte_at(notes, at);
     let place = grown(book.read, at);
     match note {
-        CLEAN => enter_clean(book, place, text),
-        REPEAT => enter_repeat(book, place, requests, text),
+        CLEAN => enter_clean(streams, book, place, text),
+        REPEAT => enter_repeat(streams, book, place, requests, text),
         DROPPED => enter_dropped(book),
-        RESUMED => enter_resumption(book, place, text),
+        RESUMED => enter_resumption(streams, book, place, text),
         MENDED..=255 => {
             let bit = note % MENDED;
             let byte = arrived(bit, at, held, portion);
-            enter_mended(book, place, bit, byte, text)
+            enter_mended(streams, book, place, bit, byte, text)
         }
         _ => book,
     }
@@ -137,10 +139,11 @@ fn start(last: u64) -> u64 {
 }
 
 // A clean block, whose last byte stands at this place of the record.
-fn enter_clean(mut book: Book, last: u64, text: &mut [u8]) -> Book {
+fn enter_clean(streams: Streams, mut book: Book, last: u64, text: &mut [u8]) -> Book {
     book.blocks = sum(book.blocks, 1);
     book.clean = sum(book.clean, 1);
     let told = gather(
+        streams,
         b"block # at #, number #: clean\n",
         &[book.blocks, start(last), book.number as u64],
         text,
@@ -152,11 +155,18 @@ fn enter_clean(mut book: Book, last: u64, text: &mut [u8]) -> Book {
 }
 
 // A block to be repeated, with the next of the portion's requests, which came of it.
-fn enter_repeat(mut book: Book, last: u64, requests: &[u8], text: &mut [u8]) -> Book {
+fn enter_repeat(
+    streams: Streams,
+    mut book: Book,
+    last: u64,
+    requests: &[u8],
+    text: &mut [u8],
+) -> Book {
     book.blocks = sum(book.blocks, 1);
     book.refused = sum(book.refused, 1);
     let asked = book.asked;
     let told = gather(
+        streams,
         b"block # at #, number #: repeat, request % %\n",
         &[
             book.blocks,
@@ -179,9 +189,10 @@ fn enter_dropped(mut book: Book) -> Book {
 }
 
 // The last code of a resumption.
-fn enter_resumption(mut book: Book, place: u64, text: &mut [u8]) -> Book {
+fn enter_resumption(streams: Streams, mut book: Book, place: u64, text: &mut [u8]) -> Book {
     book.resumptions = sum(book.resumptions, 1);
     let told = gather(
+        streams,
         b"resumed at #, number #\n",
         &[place, book.number as u64],
         text,
@@ -197,12 +208,20 @@ fn flipped(byte: u8, weight: u8) -> u8 {
 }
 
 // A block mended at this bit, in this byte as it arrived.
-fn enter_mended(mut book: Book, last: u64, bit: u8, byte: u8, text: &mut [u8]) -> Book {
+fn enter_mended(
+    streams: Streams,
+    mut book: Book,
+    last: u64,
+    bit: u8,
+    byte: u8,
+    text: &mut [u8],
+) -> Book {
     let weight = 1u8 << (bit % 8);
     let mended = flipped(byte, weight);
     book.blocks = sum(book.blocks, 1);
     book.mended = sum(book.mended, 1);
     let told = gather(
+        streams,
         b"block # at #, number #: mended, bit # (byte #, weight #), % became %\n",
         &[
             book.blocks,
@@ -225,6 +244,7 @@ fn enter_mended(mut book: Book, last: u64, bit: u8, byte: u8, text: &mut [u8]) -
 // Tells the totals, with what the links of the board handed out, and that the record ends while its receiver waits,
 // where it does so: whether all is written.
 pub(crate) fn tell_totals(
+    streams: Streams,
     book: Book,
     receiver: Receiver,
     keyboard: u64,
@@ -233,6 +253,7 @@ pub(crate) fn tell_totals(
 ) -> bool {
     let told = book.told;
     let blocks = tell(
+        streams,
         b"blocks #: # clean, # mended, # to be repeated\nresumptions #\n",
         &[
             book.blocks,
@@ -244,6 +265,7 @@ pub(crate) fn tell_totals(
         told.written,
     );
     let bytes = tell(
+        streams,
         b"bytes #, of these # dropped while waiting\nhanded out: keyboard #, modem #, socket # bytes\n",
         &[book.read, book.dropped, keyboard, modem, socket],
         blocks,
@@ -254,6 +276,7 @@ pub(crate) fn tell_totals(
     };
     let number = receiver.number as u64;
     tell(
+        streams,
         b"the record ends while block # is awaited\n",
         &[number],
         bytes,

@@ -4,6 +4,8 @@
 use crate::numbers::grown;
 use crate::texts::compose;
 use lent::{add, first};
+use std::fmt::InlineText;
+use std::io::{Error, Read, Stderr};
 
 // How far a file is between two lines that say so.
 const STRIDE: u64 = 1048576;
@@ -28,22 +30,27 @@ pub(crate) fn unread() -> Filled {
 
 // Fills a portion, unless the file ends or reading fails before. A pipe may hand out less than is asked for, so it asks
 // until all is there: then a portion of values is always so many whole blocks.
-pub(crate) fn fill(fd: i32, name: &[u8], portion: &mut [u8]) -> Filled {
+pub(crate) fn fill(file: &mut impl Read, err: Stderr, name: &[u8], portion: &mut [u8]) -> Filled {
     let mut count = 0;
     while count < portion.len() {
-        let got = libc::read(fd, &mut portion[count..]);
-        if got < 0 {
-            fail(name);
+        match file.read(&mut portion[count..]) {
+            Ok(0) => {
+                return Filled {
+                    count,
+                    more: false,
+                    failed: false,
+                };
+            }
+            Ok(n) => count += n,
+            Err(error) => {
+                fail(err, name, error);
+                return Filled {
+                    count,
+                    more: false,
+                    failed: true,
+                };
+            }
         }
-        let n = io::count(got, &portion[count..]);
-        if n == 0 {
-            return Filled {
-                count,
-                more: false,
-                failed: got < 0,
-            };
-        }
-        count += n;
     }
     Filled {
         count,
@@ -74,42 +81,53 @@ fn add_name(name: &[u8], text: &mut [u8], used: usize) -> usize {
     at
 }
 
-// Writes a line on standard error: how it begins, the file's name, and a template with its numbers after it.
-fn say(start: &[u8], name: &[u8], template: &[u8], numbers: &[u64]) {
+// Writes a line on standard error: how it begins, the file's name, and a template with its numbers after it. Where that
+// fails, nobody can be told.
+fn say(err: Stderr, start: &[u8], name: &[u8], template: &[u8], numbers: &[u64]) {
     let mut text = [0u8; LINE];
     let begun = add(start, &mut text, 0);
     let named = add_name(name, &mut text, begun);
     let used = compose(template, numbers, &mut text, named);
-    io::write_all(libc::STDERR_FILENO, first(&text, used));
+    let _ = err.write_all(first(&text, used));
 }
 
 // Tells a fault of a file.
-pub(crate) fn complain(name: &[u8], template: &[u8], numbers: &[u64]) {
-    say(b"replay: ", name, template, numbers);
+pub(crate) fn complain(err: Stderr, name: &[u8], template: &[u8], numbers: &[u64]) {
+    say(err, b"replay: ", name, template, numbers);
+}
+
+// What the system says of an error: its words, without the number that std puts behind them.
+fn words(said: &str) -> &str {
+    match said.find(" (os error ") {
+        Some(end) => &said[..end],
+        None => said,
+    }
 }
 
 // Tells a fault of a file, or of what else is named, as the system says it.
-pub(crate) fn fail(name: &[u8]) {
-    let mut text = [0u8; LINE];
-    let begun = add(b"replay: ", &mut text, 0);
-    let used = add_name(name, &mut text, begun);
-    os::fail(first(&text, used));
+pub(crate) fn fail(err: Stderr, name: &[u8], error: Error) {
+    let said = InlineText::<128>::of(error);
+    let mut template = [0u8; 132];
+    let begun = add(b": ", &mut template, 0);
+    let ended = add(words(said.as_str()).as_bytes(), &mut template, begun);
+    let used = add(b"\n", &mut template, ended);
+    complain(err, name, first(&template, used), &[]);
 }
 
 // Whether a file has any bytes, of which so many are read; an empty one is a fault.
-pub(crate) fn is_there(name: &[u8], read: u64) -> bool {
+pub(crate) fn is_there(err: Stderr, name: &[u8], read: u64) -> bool {
     if read == 0 {
-        complain(name, b": empty\n", &[]);
+        complain(err, name, b": empty\n", &[]);
         return false;
     }
     true
 }
 
 // Says how far a file is where `more` bytes after the first `before` led past a stride.
-pub(crate) fn show_progress(name: &[u8], before: u64, more: usize) {
+pub(crate) fn show_progress(err: Stderr, name: &[u8], before: u64, more: usize) {
     let strides = grown(before, more) / STRIDE;
     if before / STRIDE == strides {
         return;
     }
-    say(b".. ", name, b": # bytes read\n", &[strides * STRIDE]);
+    say(err, b".. ", name, b": # bytes read\n", &[strides * STRIDE]);
 }

@@ -5,6 +5,7 @@ use crate::numbers::grown;
 use board::Board;
 use board_pieces::{Answer, Passage};
 use line_receiver::Receiver;
+use std::io::Stderr;
 
 // As many bytes as surely suffice for a piece, so that it is not heard for room first: with at most sixteen bytes held
 // before it, it brings at most sixteen values more than it has bytes, and no value sends more than five.
@@ -48,6 +49,7 @@ pub(crate) fn receiver(play: Play) -> Receiver {
 // not taken gets a line on standard error, and counts as not heard.
 pub(crate) fn hear(
     play: Play,
+    err: Stderr,
     name: &[u8],
     piece: &[u8],
     requests: &mut [u8],
@@ -70,12 +72,14 @@ pub(crate) fn hear(
         Answer::Taken => taken(play, heard, piece.len()),
         Answer::NoRoom => refused(
             play,
+            err,
             name,
             b": there is no room for what the # bytes from place # yield; they are not played\n",
             piece.len(),
         ),
         Answer::Broken => refused(
             play,
+            err,
             name,
             b": the board is broken; the # bytes from place # are not played\n",
             piece.len(),
@@ -95,8 +99,8 @@ fn taken(play: Play, heard: Passage, count: usize) -> Play {
     }
 }
 
-fn refused(mut play: Play, name: &[u8], template: &[u8], count: usize) -> Play {
-    complain(name, template, &[count as u64, play.read]);
+fn refused(mut play: Play, err: Stderr, name: &[u8], template: &[u8], count: usize) -> Play {
+    complain(err, name, template, &[count as u64, play.read]);
     play.taking = false;
     play
 }

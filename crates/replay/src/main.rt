@@ -13,6 +13,7 @@
 // checksums.rt   a number that tells two readings of a file apart
 // numbers.rt     sums and differences that stay within their type
 #![tactic(auto)]
+
 mod blocks;
 mod book;
 mod characters;
@@ -24,60 +25,84 @@ mod records;
 mod rows;
 mod texts;
 
-use files::fail;
+use files::{complain, fail};
 use lent::{first, is};
+use std::env::{Env, FillError};
+use std::io::Stderr;
+use std::rt::Files;
+use std::{fs, str};
+use texts::Streams;
 
-fn write_usage() {
-    io::write_all(
-        libc::STDERR_FILENO,
-        b"usage: replay (replay RECORD | show RECORD | send VALUES)...\n",
-    );
+fn write_usage(err: Stderr) {
+    let _ = err.write_all(b"usage: replay (replay RECORD | show RECORD | send VALUES)...\n");
 }
 
 // Obeys one command on the file of that name. One that cannot be opened gets a line on standard error.
-fn obey(command: &[u8], name: &[u8]) {
+fn obey(rt: &impl Files, streams: Streams, command: &[u8], name: &[u8]) {
     let telling = is(command, b"replay");
     let sending = is(command, b"send");
     if !telling && !sending && !is(command, b"show") {
-        write_usage();
+        write_usage(streams.err);
         return;
     }
-    let fd = os::open_read(name);
-    if fd < 0 {
-        fail(name);
+    let Ok(path) = str::from_utf8(name) else {
+        complain(streams.err, name, b": its name is not UTF-8\n", &[]);
         return;
+    };
+    match fs::open(rt, path) {
+        Ok(mut file) => {
+            if sending {
+                blocks::send(&mut file, streams, name);
+            } else {
+                records::play(&mut file, streams, name, telling);
+            }
+        }
+        Err(error) => fail(streams.err, name, error),
     }
-    if sending {
-        blocks::send(fd, name);
-    } else {
-        records::play(fd, name, telling);
-    }
-    libc::close(fd);
 }
 
 // Obeys the pair whose command is argument `i` and whose file is argument `j`. A command is known by its whole word, so
 // that one too long for the room here is none.
-fn obey_pair(i: usize, j: usize) {
+fn obey_pair<R: Env + Files>(rt: &R, streams: Streams, i: usize, j: usize) {
     let mut word = [0u8; 8];
-    let mut path = io::buffer();
-    let k = os::arg(i, &mut word);
-    let length = os::arg(j, &mut path);
-    match os::errno() {
-        0 => obey(first(&word, k), first(&path, length)),
-        libc::EINVAL => write_usage(),
-        _ => fail(b"the name of a file"),
+    let mut path = [0u8; 4096];
+    let k = rt.arg(i, &mut word).unwrap_or(0);
+    match rt.arg(j, &mut path) {
+        Ok(length) => obey(rt, streams, first(&word, k), first(&path, length)),
+        Err(FillError::NotPresent) => write_usage(streams.err),
+        Err(FillError::TooLong) => complain(
+            streams.err,
+            b"the name of a file",
+            b": File name too long\n",
+            &[],
+        ),
     }
 }
 
+// How many arguments there are, the program's own name among them.
+fn argument_count(rt: &impl Env) -> usize {
+    let mut word = [0u8; 1];
+    for i in 0..usize::MAX {
+        if let Err(FillError::NotPresent) = rt.arg(i, &mut word) {
+            return i;
+        }
+    }
+    usize::MAX
+}
+
 // Obeys the pairs in turn. A command without a file makes a pair too, so that its fault is told.
-fn main() {
-    let pairs = os::arg_count() / 2;
+fn main(rt: HostRuntime) {
+    let streams = Streams {
+        out: rt.stdout(),
+        err: rt.stderr(),
+    };
+    let pairs = argument_count(&rt) / 2;
     if pairs == 0 {
-        write_usage();
+        write_usage(streams.err);
     }
     let mut i = 0;
     while i < pairs {
-        obey_pair(2 * i + 1, 2 * i + 2);
+        obey_pair(&rt, streams, 2 * i + 1, 2 * i + 2);
         i += 1;
     }
 }

@@ -1,6 +1,6 @@
 // The page as lines of text: with the numbers of its rows and the cursor, or in the colours of a terminal.
 use crate::characters::add_character;
-use crate::texts::{put, tell};
+use crate::texts::{Streams, put, tell};
 use lent::{add, first};
 use screen_cells::Cell;
 use screen_page::{Cursor, Read, Screen};
@@ -91,28 +91,30 @@ fn add_line(screen: Screen, row: u8, coloured: bool, text: &mut [u8]) -> usize {
 
 // Writes the rows, a line each: whether all is written. A row takes the most in colours, where each cell may have
 // fourteen bytes before its character.
-pub(crate) fn write_rows(screen: Screen, coloured: bool, begun: bool) -> bool {
+pub(crate) fn write_rows(streams: Streams, screen: Screen, coloured: bool, begun: bool) -> bool {
     let mut written = begun;
     let mut row = 0;
     while row < 25 {
         let mut text = [0u8; 800];
         let at = add_line(screen, row, coloured, &mut text);
-        written = put(&text, at, written);
+        written = put(streams, &text, at, written);
         row += 1;
     }
     written
 }
 
 // Writes the line on the cursor. A screen that a board hands back is never broken.
-pub(crate) fn write_cursor(cursor: Cursor, written: bool) -> bool {
+pub(crate) fn write_cursor(streams: Streams, cursor: Cursor, written: bool) -> bool {
     match cursor {
         Cursor::Broken => written,
         Cursor::Hidden(at) => tell(
+            streams,
             b"cursor: row #, column #, hidden\n",
             &[at.row as u64, at.column as u64],
             written,
         ),
         Cursor::Shown(at) => tell(
+            streams,
             b"cursor: row #, column #, shown\n",
             &[at.row as u64, at.column as u64],
             written,

@@ -2,6 +2,15 @@
 use crate::files::fail;
 use crate::numbers::further;
 use lent::{add, first};
+use std::fmt::InlineText;
+use std::io::{Stderr, Stdout};
+
+// What the program writes to.
+#[derive(Clone, Copy)]
+pub(crate) struct Streams {
+    pub(crate) out: Stdout,
+    pub(crate) err: Stderr,
+}
 
 // The bytes of it from one place to another, or none where it has no such places.
 fn part(s: &[u8], from: usize, to: usize) -> &[u8] {
@@ -22,13 +31,11 @@ pub(crate) fn byte_at(s: &[u8], at: usize) -> u8 {
 // Adds a number as its mark in a template asks: two hex digits for `%`, and decimal for `#`.
 fn add_number(mark: u8, n: u64, text: &mut [u8], used: usize) -> usize {
     if mark == b'%' {
-        let mut digits = [0u8; 16];
-        let k = io::hex(n, 2, &mut digits);
-        return add(&digits[..k], text, used);
+        let digits = InlineText::<16>::of(format_args!("{n:02x}"));
+        return add(digits.as_str().as_bytes(), text, used);
     }
-    let mut digits = [0u8; 20];
-    let k = io::decimal(n, &mut digits);
-    add(&digits[..k], text, used)
+    let digits = InlineText::<20>::of(n);
+    add(digits.as_str().as_bytes(), text, used)
 }
 
 // The place of the first mark of a template from a place on, or where it ends.
@@ -58,25 +65,27 @@ pub(crate) fn compose(template: &[u8], numbers: &[u64], text: &mut [u8], begun: 
 
 // Writes the first `used` bytes of a text on standard output, unless something before them could not be written:
 // whether all is written so far. The first failure gets a line on standard error.
-pub(crate) fn put(text: &[u8], used: usize, written: bool) -> bool {
+pub(crate) fn put(streams: Streams, text: &[u8], used: usize, written: bool) -> bool {
     if !written {
         return false;
     }
-    if io::write_all(libc::STDOUT_FILENO, first(text, used)) {
-        return true;
+    match streams.out.write_all(first(text, used)) {
+        Ok(()) => true,
+        Err(error) => {
+            fail(streams.err, b"standard output", error);
+            false
+        }
     }
-    fail(b"standard output");
-    false
 }
 
 // No line that is told is longer.
 const LINE: usize = 400;
 
 // Writes a template with its numbers on standard output, as `put` does.
-pub(crate) fn tell(template: &[u8], numbers: &[u64], written: bool) -> bool {
+pub(crate) fn tell(streams: Streams, template: &[u8], numbers: &[u64], written: bool) -> bool {
     let mut text = [0u8; LINE];
     let used = compose(template, numbers, &mut text, 0);
-    put(&text, used, written)
+    put(streams, &text, used, written)
 }
 
 // Lines gathered in lent memory, so that many are written at once: how many bytes they are, and whether all before them
@@ -88,29 +97,30 @@ pub(crate) struct Gathered {
 }
 
 // Writes what is gathered, as `put` does.
-pub(crate) fn flush(text: &[u8], gathered: Gathered) -> Gathered {
+pub(crate) fn flush(streams: Streams, text: &[u8], gathered: Gathered) -> Gathered {
     Gathered {
         used: 0,
-        written: put(text, gathered.used, gathered.written),
+        written: put(streams, text, gathered.used, gathered.written),
     }
 }
 
 // The same where a line more might not fit.
-fn make_room(text: &[u8], gathered: Gathered) -> Gathered {
+fn make_room(streams: Streams, text: &[u8], gathered: Gathered) -> Gathered {
     if text.len() >= LINE && gathered.used <= text.len() - LINE {
         return gathered;
     }
-    flush(text, gathered)
+    flush(streams, text, gathered)
 }
 
 // Adds a template with its numbers to what is gathered.
 pub(crate) fn gather(
+    streams: Streams,
     template: &[u8],
     numbers: &[u64],
     text: &mut [u8],
     begun: Gathered,
 ) -> Gathered {
-    let ready = make_room(text, begun);
+    let ready = make_room(streams, text, begun);
     Gathered {
         used: compose(template, numbers, text, ready.used),
         written: ready.written,
