@@ -5,6 +5,7 @@
 // that what it writes is valid and carries the values, and that every valid block of bytes is what it writes for that
 // block's values; proofs/Left what it tells, case by case, and that the block is then what stands in the output.
 #![tactic(auto)]
+
 ghost use Rattle.std.specs.Prelude.{◌≤◌, ◌≡◌, ◌++◌, length, get_or, take, drop};
 ghost use Rattle.block_maker.specs.Making.{useful, sealed, told, make_told, make_left};
 ghost use Rattle.block_maker.specs.Making.{values_of};

@@ -1,6 +1,7 @@
 // The table from a remainder to the bit that it points to (001, section 5-3-4): the one of the first 128 that alone
 // leaves it. Its rule is proved once, over the whole table (proofs/Pointed).
 #![tactic(auto)]
+
 ghost use Rattle.std.specs.Prelude.{◌%◌};
 ghost use Rattle.block_validity.specs.Mending.{PointsTo};
 

@@ -6,6 +6,7 @@
 // one byte of odd parity. proofs/Verdicts is the one door by which any judge is shown to be right, and has demand
 // 3; proofs/AsZeros shows that hits are judged alike in every valid block.
 #![tactic(auto)]
+
 ghost use Rattle.std.specs.Prelude.{◌≡◌};
 ghost use Rattle.block_reader.specs.Judging.{judged, left, told};
 ghost use Rattle.block_reader.specs.Quick.{the_odd_one};

@@ -18,7 +18,9 @@ wanted = 149 ∷ 192 ∷ []
 
 -- this set and code, ink 7, ground 0, no flash, not inverse
 abbrev pub white : ℕ → ℕ → Cell
-white s d = record { character = record { set = s; code = d }; ink = 7; ground = 0; flash = false; inverse = false }
+white s d =
+    let ground : ℕ = 0 in
+    record { character = record { set = s; code = d }; ink = 7; ground = ground; flash = false; inverse = false }
 
 -- row 0, eleven A at the beginning of row 1, and all the rest blank
 

@@ -83,7 +83,7 @@ pairs (c ∷ cs) = esc ∷ c ∷ 98 ∷ pairs cs
 -- ---- cells
 
 -- set, code, ink and ground; no flash, not inverse
-abbrev pub cell : ℕ → ℕ → ℕ → ℕ → Cell
+abbrev pub cell : ℕ → ℕ → (ink ground : ℕ) → Cell
 cell s d i g =
     record { character = record { set = s; code = d }; ink = i; ground = g; flash = false; inverse = false }
 

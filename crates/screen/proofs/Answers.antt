@@ -16,17 +16,13 @@ use Rattle.screen_page.specs.Ranges.{broken}
 use Rattle.screen.specs.Screens.{advanced_by}
 use Rattle.screen.specs.Calls.{left_by, answered, runs_to, ran}
 
--- the answers but the first
-abbrev refusals : List ℕ
-refusals = 1 ∷ 2 ∷ []
-
--- each leaves the screen
-kept : (a : Answer) → OneOf refusals (tag_of the_type a) → (s x : Screen) → s ≡ left_by a s x
-kept Taken h s x = absurd (miss refusals 0 tt h)
+-- each but the first leaves the screen
+kept : (a : Answer) → (a ≡ Taken → ⊥) → (s x : Screen) → s ≡ left_by a s x
+kept Taken h s x = absurd (h refl)
 kept (TooLarge i) h s x = refl
 kept Broken h s x = refl
 
-pub ran_refused : (s : Screen) (vs : List ℕ) (a : Answer) → OneOf refusals (tag_of the_type a) → a ≡ answered s vs
+pub ran_refused : (s : Screen) (vs : List ℕ) (a : Answer) → (a ≡ Taken → ⊥) → a ≡ answered s vs
     → runs_to s a ≡ ran s vs
 unfolding ran
 ran_refused s vs a h e =

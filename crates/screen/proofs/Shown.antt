@@ -65,6 +65,7 @@ character_leaves s c = (refl, refl, written_alike s.pen.here.attributes c)
 among_split : (n : ℕ) (x : Place) {y : Place} → Among y (onwards (suc n) x)
     → Among y (onwards n x) ⊎ (y ≡ moved n x)
 among_split zero x here = inr refl
+among_split zero x {y = y} (later m) = elim m [ ]
 among_split (suc n) x here = inl here
 among_split (suc n) x {y} (later m) =
     ⊎_elim (λ (i : Among y (onwards n (right_of x))). inl (later i)) (λ e. inr (e ∙ moved_right n x))
@@ -138,9 +139,11 @@ module _ (s : Screen) (c : Character) (h : On s.pen.here.place) (l : length s.ce
 
   kept : (n : ℕ) (x : Place) → Among x (onwards n s.pen.here.place) → Fits n (cell_at (after n) x)
       → Fits (suc n) (cell_at (after (suc n)) x)
+  kept zero x i f = elim i [ ]
   kept (suc n) x i f = earlier n x _ refl f
 
   pub times_there : (n : ℕ) (x : Place) → Among x (onwards n s.pen.here.place) → Fits n (cell_at (after n) x)
+  times_there zero x m = elim m [ ]
   times_there (suc n) x m =
       ⊎_elim (λ (i : Among x (onwards n s.pen.here.place)). kept n x i (times_there n x i))
       (λ e. at_cursor n x (ap index_of (e ∙ sym (times_place s c n)))) (among_split n s.pen.here.place m)

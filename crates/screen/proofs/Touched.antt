@@ -73,6 +73,7 @@ among_more : (m n : ℕ) (x : Place) {y : Place} → m ≤ n → Among y (onward
 among_more (suc m) (suc n) x h here = here
 among_more (suc m) (suc n) x h (later a) = later (among_more m n (right_of x) (le_of_suc-le-suc h) a)
 among_more (suc m) zero x h a = absurd (not-suc-le-zero h)
+among_more zero n x {y = y} h a = elim a [ ]
 
 -- the cursor after n characters, and a cell that none of them is written to
 pub times_place : (s : Screen) (c : Character) (n : ℕ) → (written_times s c n).pen.here.place ≡ moved n s.pen.here.place

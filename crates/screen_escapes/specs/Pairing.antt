@@ -10,7 +10,7 @@ with_ink a n = record { set = a.set; ink = n; zone = a.zone; flash = a.flash; in
 abbrev pub with_zone : Attributes → Zone → Attributes
 with_zone a z = record { set = a.set; ink = a.ink; zone = z; flash = a.flash; inverse = a.inverse }
 
-abbrev pub waits_for : Attributes → ℕ → Attributes
+abbrev pub waits_for : Attributes → (ground : ℕ) → Attributes
 waits_for a n = with_zone a (record { ground = a.zone.ground; waiting = Ground n })
 
 abbrev pub with_flash : Attributes → Bool → Attributes

@@ -57,7 +57,7 @@ fate p Show = left_alone
 fate p Hide = left_alone
 
 -- the ground in force once what waits is taken, where g was
-abbrev pub taken_from : Waiting → ℕ → ℕ
+abbrev pub taken_from : Waiting → (ground : ℕ) → ℕ
 taken_from Nothing g = g
 taken_from (Ground x) g = x
 

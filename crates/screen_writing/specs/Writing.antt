@@ -10,7 +10,7 @@ use Rattle.screen_attributes.specs.declared.Attributes.{Attributes}
 use Rattle.screen_writing.specs.declared.Written.{Written}
 
 -- the ground is in force, and none waits
-abbrev pub taking : ℕ → Zone
+abbrev pub taking : (ground : ℕ) → Zone
 taking g = record { ground = g; waiting = Nothing }
 
 abbrev pub after_waiting : Waiting → Zone → Bool → Zone

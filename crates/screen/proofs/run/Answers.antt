@@ -13,32 +13,24 @@ use Rattle.screen.specs.Calls.{answered, ran}
 use Rattle.screen.proofs.Answers.{ran_refused}
 use Rattle.screen.proofs.run.Goals as goal
 
-as_answered : (c : goal.After-answer_to-answer)
-    → c.answer_to-answer.result
-    ≡ answered c.args.screen c.args.values.now
-as_answered c =
-    simp (c.answer_to-answer.ensures, c.first_large-at.ensures, c.is_broken-broken.ensures)
-
--- what is taken
-taken : (c : goal.In-Taken)
-    → (broken c.args.screen ≡ false)
-    × (length c.args.values.now
-    ≤ first_large c.args.values.now)
-taken c = taken_only _ _ _ (sym (as_answered c) ∙ c.in-Taken.is)
-
 pub returns-in_default : goal.returns-in_default
 returns-in_default c =
     let a = c.args in
-    ran_refused a.screen a.values.now c.answer_to-answer.result c.in-Taken.keys2 (as_answered c)
+    let e : c.answer_to-answer.result ≡ answered a.screen a.values.now =
+    simp (c.answer_to-answer.ensures, c.first_large-at.ensures, c.is_broken-broken.ensures) in
+    ran_refused a.screen a.values.now c.answer_to-answer.result c.in_default.not-Taken e
 
 pub advance-screen-requires : goal.advance-screen-requires
-advance-screen-requires c = record {
-  in_range = whole _ (taken c).0;
-  values = all_small _ (taken c).1;
-}
+advance-screen-requires c =
+    let a = c.args in
+    let e : c.answer_to-answer.result ≡ answered a.screen a.values.now =
+    simp (c.answer_to-answer.ensures, c.first_large-at.ensures, c.is_broken-broken.ensures) in
+    let t = taken_only _ _ _ (sym e ∙ c.in-Taken.is) in record { in_range = whole _ t.0; values = all_small _ t.1 }
 
 pub returns : goal.returns
 unfolding ran
 returns c =
-    let e = c.in-Taken.is in
-    simp (c.advance-screen.ensures, e, ← as_answered c)
+    let a = c.args in
+    let e : c.answer_to-answer.result ≡ answered a.screen a.values.now =
+    simp (c.answer_to-answer.ensures, c.first_large-at.ensures, c.is_broken-broken.ensures) in
+    simp (c.advance-screen.ensures, c.in-Taken.is, ← e)

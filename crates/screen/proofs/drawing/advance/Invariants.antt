@@ -35,6 +35,9 @@ use Rattle.screen.proofs.drawing.advance.Given as goal
 abbrev pub invariant-loop-times : goal.invariant-loop-times
 invariant-loop-times l = On l.pen.here.place
     × (written_times (with_pen l.screen l.pen) l.character l.times ≡ written_times (with_pen l.initial.screen l.initial.pen) l.character l.initial.times)
+    × InScreen (written_times (with_pen l.initial.screen l.initial.pen) l.character l.initial.times)
+    × (written_times (with_pen l.initial.screen l.initial.pen) l.character l.initial.times
+    ≡ advanced_by l.fn.start (take l.i l.values))
 
 abbrev pub decreases-loop-times : goal.decreases-loop-times
 decreases-loop-times l = l.times

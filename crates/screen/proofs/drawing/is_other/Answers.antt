@@ -14,12 +14,9 @@ use Rattle.screen_sequences.specs.contracts.Sequence.{the_type}
 use Rattle.screen.specs.Others.{is_other}
 use Rattle.screen.proofs.drawing.is_other.Goals as goal
 
--- the eight sequences that are unfinished
-abbrev others : List ℕ
-others = 1 ∷ 2 ∷ 3 ∷ 4 ∷ 5 ∷ 6 ∷ 7 ∷ 8 ∷ []
-
-unfinished : (q : Sequence) → OneOf others (tag_of the_type q) → is_free q ≡ false
-unfinished Free h = absurd (miss others 0 tt h)
+-- a sequence that is not free
+unfinished : (q : Sequence) → (q ≡ Free → ⊥) → is_free q ≡ false
+unfinished Free h = absurd (h refl)
 unfinished Escape h = refl
 unfinished Long h = refl
 unfinished Control h = refl
@@ -31,7 +28,7 @@ unfinished (Row r) h = refl
 
 pub returns-in_default : goal.returns-in_default
 unfolding is_other
-returns-in_default c = simp (unfinished c.args.pen.sequence c.in-Free.keys2)
+returns-in_default c = simp (unfinished c.args.pen.sequence c.in_default.not-Free)
 
 pub returns : goal.returns
 unfolding is_other

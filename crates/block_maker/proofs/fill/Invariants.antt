@@ -1,0 +1,18 @@
+-- `block_maker::fill` meets its contract: the first i bytes are useful ones, and the others as they were. Assumes
+-- nothing.
+use mathlib.Core.Path.{◌≡◌, refl, ap, ap₂, ◌∙◌}
+use mathlib.Core.List.{List, ◌++◌}
+use Prim.Native.Nat.{ℕ, ◌-◌, ◌≤◌}
+use native.Mathlib.Omega.{arith}
+use lib.ListN.{length, take, drop, set, length-set}
+use lib.Seq.{take_all}
+use Rattle.laws.proofs.Lists.{put}
+use Rattle.block_maker.specs.Making.{useful}
+use Rattle.block_maker.proofs.Blocks.{useful_length}
+use Rattle.block_maker.proofs.fill.Given as goal
+
+abbrev pub invariant-loop-i : goal.invariant-loop-i
+invariant-loop-i l = (l.i ≤ 15) × (l.out ≡ take l.i (useful l.values) ++ drop l.i l.initial.out) × (length l.out ≡ length l.initial.out)
+
+abbrev pub decreases-loop-i : goal.decreases-loop-i
+decreases-loop-i l = 15 - l.i

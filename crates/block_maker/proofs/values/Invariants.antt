@@ -1,0 +1,19 @@
+-- `block_maker::values` meets its contract: the first i places hold values, and the others are as they began. Assumes
+-- nothing.
+use mathlib.Core.Path.{◌≡◌, refl, ap, ap₂, sym, ◌∙◌}
+use mathlib.Core.List.{List, ◌++◌, append-nil}
+use Prim.Native.Nat.{ℕ, ◌-◌, ◌≤◌}
+use native.Mathlib.Omega.{arith}
+use lib.ListN.{length, take, drop, set, replicate}
+use lib.Seq.{take_all}
+use borrow.Author.Rules.{rules}
+use Rattle.laws.proofs.Lists.{put}
+use Rattle.block_maker.specs.Making.{values_of}
+use Rattle.block_maker.proofs.Blocks.{values_length, value_at}
+use Rattle.block_maker.proofs.values.Given as goal
+
+abbrev pub invariant-loop-place : goal.invariant-loop-place
+invariant-loop-place l = (l.place ≤ 15) × (l.values ≡ take l.place (values_of l.bytes) ++ drop l.place (replicate 15 0))
+
+abbrev pub decreases-loop-place : goal.decreases-loop-place
+decreases-loop-place l = 15 - l.place

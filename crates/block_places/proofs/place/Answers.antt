@@ -1,0 +1,9 @@
+-- `block_places::place` meets its contract, by the table's rule. Assumes nothing.
+use Prim.Native.Nat.{◌%◌}
+use native.Mathlib.Nat.{mod-lt, zero-lt-suc}
+use borrow.Author.Rules.{rules}
+use Rattle.block_places.proofs.Pointed.{pointed}
+use Rattle.block_places.proofs.place.Goals as goal
+
+pub returns : goal.returns
+returns c = pointed (c.args.r % 128) (mod-lt c.args.r (zero-lt-suc 127))
