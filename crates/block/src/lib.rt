@@ -3,6 +3,7 @@
 // back the first fifteen bytes of the lent block itself. proofs/Returned ties the two ends together: what the maker
 // writes the reader hands back, and what is read clean the maker writes.
 #![tactic(auto)]
+
 ghost use Rattle.std.specs.Prelude.{◌≡◌};
 ghost use Rattle.block_reader.specs.Judging.{judged, handed, bit_named};
 

@@ -1,6 +1,7 @@
 // Lent memory: its parts, none longer than it is, so that a caller has no length to prove; whether two hold the same;
 // and bytes added to it, as many as fit.
 #![tactic(auto)]
+
 ghost use Rattle.std.specs.Prelude.{◌≡◌, min, take, drop};
 ghost use Rattle.lent.specs.Memory.{same, written, behind};
 

@@ -2,6 +2,7 @@
 // specs/Phases says what each is; proofs/Seventeenth shows that it is the seventeenth byte which completes a block, and
 // proofs/Written has the start and the ends of the ranges written out.
 #![tactic(auto)]
+
 ghost use Rattle.std.specs.Prelude.{◌≡◌};
 ghost use Rattle.line_phases.specs.Phases.{at_start, awaits_more, in_range};
 

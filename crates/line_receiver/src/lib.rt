@@ -9,6 +9,7 @@
 // line's side, without a receiver, specs/Standing ties a receiver to it, and proofs/ shows that the two agree at every
 // moment of every run.
 #![tactic(auto)]
+
 ghost use Rattle.std.specs.Prelude.{◌≡◌};
 ghost use Rattle.line_receiver.specs.States.{new_receiver};
 ghost use Rattle.line_receiver.specs.Calls.{stepped, switched_to, switched_on, switched_off, asked_again};

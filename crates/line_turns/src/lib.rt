@@ -5,6 +5,7 @@
 // so that a night book needs no receiver of its own. specs/Turns says what a turn is, specs/Notes what the notes are,
 // and proofs/Steps shows that a turn comes to what single steps do.
 #![tactic(auto)]
+
 ghost use Rattle.std.specs.Prelude.{◌≡◌};
 ghost use Rattle.line_turns.specs.Turns.{still, turn_of};
 

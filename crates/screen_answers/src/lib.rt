@@ -2,6 +2,7 @@
 // says which answer comes of the conditions, proofs/Written writes some out, and proofs/Given shows that the answer has
 // the number that the paper gives them.
 #![tactic(auto)]
+
 ghost use Rattle.std.specs.Prelude.{◌≡◌};
 ghost use Rattle.screen_answers.specs.Answers.{answer_to};
 

@@ -2,6 +2,7 @@
 // line: each function here does nothing, and its contract is a theorem about what `screen` and the crates below it
 // define. It is proved in those crates, whose words it speaks.
 #![tactic(auto)]
+
 pub mod cells;
 pub mod changes;
 pub mod pieces;

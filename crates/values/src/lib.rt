@@ -3,6 +3,7 @@
 // `first_large` finds the lowest place of a value above 127. specs/Large says which it is; proofs/Found shows that
 // there is none exactly when every value is 0 to 127.
 #![tactic(auto)]
+
 ghost use Rattle.std.specs.Prelude.{◌≡◌};
 ghost use Rattle.values.specs.Large.{first_large};
 

@@ -1,12 +1,11 @@
 -- `lent::add` meets its contract. Assumes nothing.
 use mathlib.Core.Path.{◌≡◌, refl, sym, ap, ◌∙◌}
 use mathlib.Core.List.{List, [], ◌∷◌, ◌++◌}
-use Prim.Native.Nat.{ℕ, ◌+◌, ◌-◌, ◌≤◌, ◌<◌, zero-le, min}
+use Prim.Native.Nat.{ℕ, ◌+◌, zero-le}
 use native.Mathlib.Numerals.{add-one}
 use native.Mathlib.Omega.{arith}
 use lib.ListN.{length, take, get_or, set, length-set}
 use lib.Seq.{take-suc, length-take-le}
-use borrow.Author.Rules.{rules}
 use Rattle.lent.specs.Memory.{written}
 use Rattle.lent.proofs.Behind.{none_written, no_place, one_more, so_many}
 use Rattle.lent.proofs.add.Goals as goal
@@ -16,7 +15,7 @@ returns-then-out-at c =
     let a = c.args in
     record {
       value = omega arith;
-      left = sym (no_place a.out.now a.at a.bytes.now (omega arith))
+      left = sym (no_place a.out.now a.at a.bytes.now (omega arith));
     }
 
 pub loop-i-init : goal.loop-i-init
@@ -51,5 +50,5 @@ returns c =
     let l = c.loop-i in
     let a = c.args in record {
       value = ap (λ (n : ℕ). a.at + n) l.invariant.1;
-      left = l.invariant.3 ∙ so_many a.out.now a.at a.bytes.now l.i (omega arith)
+      left = l.invariant.3 ∙ so_many a.out.now a.at a.bytes.now l.i (omega arith);
     }

@@ -1,10 +1,9 @@
 -- `lent::is` meets its contract. Assumes nothing.
 use mathlib.Core.Path.{◌≡◌, refl, sym, ap, ◌∙◌}
-use Prim.Native.Nat.{ℕ, ◌-◌, ◌≤◌, zero-le}
+use Prim.Native.Nat.{ℕ, zero-le}
 use native.Mathlib.Numerals.{add-one}
 use native.Mathlib.Omega.{arith}
 use lib.ListN.{length, drop}
-use borrow.Author.Rules.{rules}
 use Rattle.lent.specs.Memory.{same}
 use Rattle.lent.proofs.Same.{other_length, none_left, alike, unlike}
 use Rattle.lent.proofs.is.Goals as goal

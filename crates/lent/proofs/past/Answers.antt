@@ -4,7 +4,6 @@ use Prim.Native.Nat.{ℕ, ◌-◌}
 use native.Mathlib.Omega.{arith}
 use lib.ListN.{length, drop, length-drop, drop_of_length-le}
 use lib.Seq.{take_all, drop-length}
-use borrow.Author.Rules.{rules}
 use Rattle.lent.proofs.past.Goals as goal
 
 pub returns-then-n-s : goal.returns-then-n-s

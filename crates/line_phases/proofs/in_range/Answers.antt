@@ -1,6 +1,5 @@
 -- `line_phases::in_range` meets its contract. Assumes nothing.
 use borrow.Author.Tests.{le-ltb, lt-ltb}
-use borrow.Author.Rules.{rules}
 use Rattle.line_phases.proofs.in_range.Goals as goal
 
 pub returns-then-number-ge16 : goal.returns-then-number-ge16

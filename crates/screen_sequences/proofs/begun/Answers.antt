@@ -1,5 +1,4 @@
 -- `screen_sequences::begun` meets its contract. Assumes nothing.
-use borrow.Author.Tests.{ne_eqb}
 use Rattle.screen_sequences.proofs.begun.Goals as goal
 
 pub returns-in-18 : goal.returns-in-18
@@ -16,4 +15,3 @@ returns-in-27 c = simp c.in-27.is
 
 pub returns-in-31 : goal.returns-in-31
 returns-in-31 c = simp c.in-31.is
-

@@ -1,5 +1,4 @@
 -- `screen_sequences::follow` meets its contract. Assumes nothing.
-use borrow.Author.Rules.{rules}
 use Rattle.screen_sequences.proofs.follow.Goals as goal
 
 pub returns-in-Free : goal.returns-in-Free

@@ -1,6 +1,5 @@
 -- `screen_sequences::hear` meets its contract. Assumes nothing.
 use borrow.Author.Tests.{eq-eqb, le-ltb, lt-ltb, ne_eqb}
-use borrow.Author.Rules.{rules}
 use Rattle.screen_sequences.proofs.hear.Goals as goal
 
 pub returns-then-value-eq0 : goal.returns-then-value-eq0

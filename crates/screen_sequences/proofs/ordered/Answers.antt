@@ -1,5 +1,4 @@
 -- `screen_sequences::ordered` meets its contract. Assumes nothing.
-use borrow.Author.Tests.{ne_eqb}
 use Rattle.screen_sequences.proofs.ordered.Goals as goal
 
 pub returns-in-8 : goal.returns-in-8
@@ -34,4 +33,3 @@ returns-in-20 c = simp c.in-20.is
 
 pub returns-in-30 : goal.returns-in-30
 returns-in-30 c = simp c.in-30.is
-

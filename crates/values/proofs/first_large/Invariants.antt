@@ -1,12 +1,10 @@
 -- `values::first_large` meets its contract: the values passed are small, so the answer is that of those left.
 -- Assumes nothing.
-use mathlib.Core.Path.{◌≡◌, sym, ap, ◌∙◌}
+use mathlib.Core.Path.{◌≡◌}
 use mathlib.Core.List.{List}
 use Prim.Native.Nat.{ℕ, ◌+◌, ◌-◌, ◌≤◌}
-use native.Mathlib.Omega.{arith}
 use lib.ListN.{length, drop}
 use Rattle.values.specs.Large.{first_large}
-use Rattle.values.proofs.Found.{large_more, large_here, large_end}
 use Rattle.values.proofs.first_large.Given as goal
 
 -- the place found among the values from place i on

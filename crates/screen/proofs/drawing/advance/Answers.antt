@@ -55,35 +55,35 @@ loop-times-init c =
     let small : value ≤ 127 = omega (arith, h) in
     let tested : plan l.pen value ≡ planned l.pen value = plan_tested _ _ (pen_true _ l.invariant.1.pen) small in
     let one_step : (a : Planned) (o : Asked) → a.asked ≡ o → a ≡ planned l.pen value
-        → applied l.screen a.pen o ≡ advanced (with_pen l.screen l.pen) value =
+    → applied l.screen a.pen o ≡ advanced (with_pen l.screen l.pen) value =
     λ a o k e. ap (applied l.screen a.pen) (sym k) ∙ planned_step l.screen l.pen value a e in
     let on : (a : Planned) → a ≡ planned l.pen value → On a.pen.here.place =
     λ a e. rw e (planned_in _ small l.invariant.1.pen).pen.here.place in
     let joined : (written_times (with_pen j.screen j.pen) j.character j.times ≡ advanced (with_pen l.screen l.pen) value)
-        × On j.pen.here.place =
+    × On j.pen.here.place =
     elim j.branch [
-      then-is_other+in-Nothing w ↦
-        let e = w.plan-planned.ensures ∙ tested in (
-          same_done w.screen-is w.pen-is w.character-is w.times-is ∙ one_step _ _ w.in-Nothing.is e,
-          subst⁻¹ OnIt w.pen-is (on _ e),
-        )
+      | then-is_other+in-Nothing w ↦
+          let e = w.plan-planned.ensures ∙ tested in (
+            same_done w.screen-is w.pen-is w.character-is w.times-is ∙ one_step _ _ w.in-Nothing.is e,
+            subst⁻¹ OnIt w.pen-is (on _ e),
+          )
       | then-is_other+in-Blank w ↦
-        let e = w.plan-planned.ensures ∙ tested in (
-          same_done w.screen-is w.pen-is w.character-is w.times-is
-              ∙ ap (λ (cs : List Cell). record { cells = cs; pen = w.plan-planned.result.pen }) w.clear-cells.ensures
-              ∙ one_step _ _ w.in-Blank.is e,
-          subst⁻¹ OnIt w.pen-is (on _ e),
-        )
+          let e = w.plan-planned.ensures ∙ tested in (
+            same_done w.screen-is w.pen-is w.character-is w.times-is
+                ∙ ap (λ (cs : List Cell). record { cells = cs; pen = w.plan-planned.result.pen }) w.clear-cells.ensures
+                ∙ one_step _ _ w.in-Blank.is e,
+            subst⁻¹ OnIt w.pen-is (on _ e),
+          )
       | then-is_other+in-Put w ↦
-        let e = w.plan-planned.ensures ∙ tested in (
-          same_done w.screen-is w.pen-is w.character-is w.times-is ∙ one_step _ _ w.in-Put.is e,
-          subst⁻¹ OnIt w.pen-is (on _ e),
-        )
+          let e = w.plan-planned.ensures ∙ tested in (
+            same_done w.screen-is w.pen-is w.character-is w.times-is ∙ one_step _ _ w.in-Put.is e,
+            subst⁻¹ OnIt w.pen-is (on _ e),
+          )
       | else-is_other w ↦
-        let e = plain l.pen value (sym c.is_other.ensures ∙ w.if-is_other.false) in (
-          same_done w.screen-is w.pen-is w.character-is w.times-is ∙ one_step _ _ refl e,
-          subst⁻¹ OnIt w.pen-is (on _ e),
-        )
+          let e = plain l.pen value (sym c.is_other.ensures ∙ w.if-is_other.false) in (
+            same_done w.screen-is w.pen-is w.character-is w.times-is ∙ one_step _ _ refl e,
+            subst⁻¹ OnIt w.pen-is (on _ e),
+          )
     ] in (
       joined.1,
       refl,
