@@ -5,6 +5,7 @@
 // specs/LineBytes says what bytes come to, specs/Fitting what room that takes, specs/Ample which is surely enough;
 // proofs/Onwards shows what one byte more brings, proofs/Rooms when there is room, and proofs/Amply that there is.
 #![tactic(auto)]
+
 ghost use Rattle.std.specs.Prelude.{◌≡◌, ◌≤◌};
 ghost use Rattle.board_feeding.specs.Feeding.{Enough};
 ghost use Rattle.board_front.specs.LineBytes.{sent_on, heard_by};

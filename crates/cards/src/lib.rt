@@ -1,6 +1,7 @@
 // The bench cards W1 to W14 of 01, as one statement over their list (specs/Cards), and our own cards of the screen as
 // another (specs/ScreenCards).
 #![tactic(auto)]
+
 ghost use Rattle.cards.specs.Cards.{EachHolds, cards};
 ghost use Rattle.cards.specs.ScreenCards.{screen_runs};
 

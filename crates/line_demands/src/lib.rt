@@ -2,6 +2,7 @@
 // nothing, and its contract is a theorem about what `line_receiver`, `line_turns`, `line_codes` and the crates of the
 // block define. It is proved in the crate whose words it speaks.
 #![tactic(auto)]
+
 pub mod pieces;
 pub mod runs;
 pub mod states;

@@ -1,6 +1,6 @@
 -- A turn comes to what its bytes come to one by one. Assumes nothing.
 use mathlib.Core.Path.{◌≡◌, refl, sym, ap, ◌∙◌}
-use mathlib.Core.Bool.{Bool, true, false, cond, ◌&&◌}
+use mathlib.Core.Bool.{Bool, cond, ◌&&◌}
 use mathlib.Core.List.{List, [], ◌∷◌, ◌++◌, map, map-append, append-nil}
 use Prim.Native.Nat.{ℕ, zero, suc, ◌+◌, ◌-◌, ◌≤◌, ◌<◌}
 use native.Mathlib.Numerals.{add-one}
@@ -15,7 +15,7 @@ use Rattle.line_phases.specs.declared.Phase.TheVariants.{Collecting}
 use Rattle.line_receiver.specs.declared.Receiver.{Receiver}
 use Rattle.line_receiver.specs.States.{emptied}
 use Rattle.line_receiver.specs.Calls.{stepped}
-use Rattle.line_receiver.specs.Runs.{Event, byte, run, Sent, sent_by, sent, all_passed, all_asked}
+use Rattle.line_receiver.specs.Runs.{byte, run, Sent, sent_by, sent, all_passed, all_asked}
 use Rattle.line_receiver.specs.Page.{nothing}
 use Rattle.line_receiver.proofs.Asked.{asked_counted, passed_few}
 use Rattle.line_receiver.proofs.Kept.{run_append, sent_append}

@@ -5,7 +5,6 @@ use Rattle.line_phases.specs.Phases.{awaits_more}
 use Rattle.line_phases.specs.declared.Phase.{Phase}
 use Rattle.line_phases.specs.declared.Phase.TheVariants.{Off, Collecting, Waiting}
 use Rattle.line_receiver.specs.declared.Receiver.{Receiver}
-use Rattle.line_receiver.specs.declared.Stepped.{Stepped}
 use Rattle.line_receiver.specs.States.{in_range}
 use Rattle.line_receiver.specs.Calls.{silent, stepped}
 use Rattle.line_receiver.specs.Runs.{byte, run, sent_by, sent, all_passed, all_asked}

@@ -1,10 +1,10 @@
 -- Commands written out, code by code, as 01 and 001 have them (part 2, chapter 6, sections 1 to 3). Assumes nothing.
 use mathlib.Core.Path.{◌≡◌, refl}
 use mathlib.Core.Bool.{true, false}
-use mathlib.Core.List.{List, [], ◌∷◌, map}
+use mathlib.Core.List.{[], ◌∷◌, map}
 use Rattle.links_wiring.specs.declared.Module.TheVariants.{Screen, Keyboard, Modem, Socket}
 use Rattle.links_commands.specs.declared.Order.TheVariants.{Nothing, Link, Ask}
-use Rattle.links_commands.specs.Commands.{Command, pro1, pro2, pro3, spelled, ordered, link_command, ask_command}
+use Rattle.links_commands.specs.Commands.{pro1, pro2, pro3, spelled, ordered}
 
 -- "1/B then 3/9, 3/A, 3/B and one, two, three codes"
 pub spelled_written :

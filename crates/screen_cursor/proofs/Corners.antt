@@ -1,6 +1,6 @@
 -- The corners of the screen and the places beyond them, written out (01, "Screen cells"). Assumes nothing.
 use mathlib.Core.Path.{◌≡◌, refl}
-use mathlib.Core.Bool.{Bool, true, false}
+use mathlib.Core.Bool.{true, false}
 use mathlib.Core.List.{List, [], ◌∷◌}
 use Prim.Native.Nat.{ℕ}
 use Rattle.screen_cursor.specs.declared.Place.{Place}

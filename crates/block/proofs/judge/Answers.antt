@@ -19,9 +19,9 @@ slice_bounds-result-end c =
     c.args.block.now in
     let says : (v : Verdict) → c.mend-v.result ≡ v → told v ≡ judged was =
     λ v e. sym (ap told e) ∙ c.mend-v.ensures.0 in
-    let fifteen : length was ≡ 17 → 15 ≡ length (take 15 c.mend-v.last.0) =
-    λ e. let l : length c.mend-v.last.0 ≡ 17 = c.mend-v.kept.0 ∙ e in
-    sym (length-take-le 15 c.mend-v.last.0 (omega arith)) in
+    let fifteen : length was ≡ 17 → 15 ≡ length (take 15 c.mend-v.new.block) =
+    λ e. let l : length c.mend-v.new.block ≡ 17 = c.mend-v.auto.block ∙ e in
+    sym (length-take-le 15 c.mend-v.new.block (omega arith)) in
     fifteen (clean_long was (says Clean c.in-Clean.is))
 
 pub slice_bounds-result-end-in-Mended : goal.slice_bounds-result-end-in-Mended
@@ -30,11 +30,10 @@ slice_bounds-result-end-in-Mended c =
     c.args.block.now in
     let says : (v : Verdict) → c.mend-v.result ≡ v → told v ≡ judged was =
     λ v e. sym (ap told e) ∙ c.mend-v.ensures.0 in
-    let fifteen : length was ≡ 17 → 15 ≡ length (take 15 c.mend-v.last.0) =
-    λ e. let l : length c.mend-v.last.0 ≡ 17 = c.mend-v.kept.0 ∙ e in
-    sym (length-take-le 15 c.mend-v.last.0 (omega arith)) in
-    let v = c.v-1 in
-    fifteen (mended_long was v.given.0.0 (says (Mended v.given.0.0) v.given.1))
+    let fifteen : length was ≡ 17 → 15 ≡ length (take 15 c.mend-v.new.block) =
+    λ e. let l : length c.mend-v.new.block ≡ 17 = c.mend-v.auto.block ∙ e in
+    sym (length-take-le 15 c.mend-v.new.block (omega arith)) in
+    fifteen (mended_long was c.in-Mended.b (says (Mended c.in-Mended.b) c.in-Mended.is))
 
 pub returns-in-Clean : goal.returns-in-Clean
 returns-in-Clean c =
@@ -44,11 +43,11 @@ returns-in-Clean c =
     λ v e. sym (ap told e) ∙ c.mend-v.ensures.0 in
     let answers : (v : Verdict) → c.mend-v.result ≡ v
     → ((told v).number ≡ (judged was).number) × (bit_named (told v) ≡ bit_named (judged was))
-    × (handed_by v c.mend-v.last.0 ≡ handed was) =
+    × (handed_by v c.mend-v.new.block ≡ handed was) =
     λ v e. (
       ap (λ (t : Told). t.number) (says v e),
       ap bit_named (says v e),
-      handed_as was c.mend-v.last.0 v (says v e) c.mend-v.ensures.1,
+      handed_as was c.mend-v.new.block v (says v e) c.mend-v.ensures.1,
     ) in
     let a = answers Clean c.in-Clean.is in
     (a.0, a.1, a.2, refl)
@@ -61,14 +60,13 @@ returns-in-Mended c =
     λ v e. sym (ap told e) ∙ c.mend-v.ensures.0 in
     let answers : (v : Verdict) → c.mend-v.result ≡ v
     → ((told v).number ≡ (judged was).number) × (bit_named (told v) ≡ bit_named (judged was))
-    × (handed_by v c.mend-v.last.0 ≡ handed was) =
+    × (handed_by v c.mend-v.new.block ≡ handed was) =
     λ v e. (
       ap (λ (t : Told). t.number) (says v e),
       ap bit_named (says v e),
-      handed_as was c.mend-v.last.0 v (says v e) c.mend-v.ensures.1,
+      handed_as was c.mend-v.new.block v (says v e) c.mend-v.ensures.1,
     ) in
-    let v = c.v-1 in
-    let a = answers (Mended v.given.0.0) v.given.1 in
+    let a = answers (Mended c.in-Mended.b) c.in-Mended.is in
     (a.0, a.1, a.2, refl)
 
 pub returns-in-Repeat : goal.returns-in-Repeat
@@ -79,11 +77,11 @@ returns-in-Repeat c =
     λ v e. sym (ap told e) ∙ c.mend-v.ensures.0 in
     let answers : (v : Verdict) → c.mend-v.result ≡ v
     → ((told v).number ≡ (judged was).number) × (bit_named (told v) ≡ bit_named (judged was))
-    × (handed_by v c.mend-v.last.0 ≡ handed was) =
+    × (handed_by v c.mend-v.new.block ≡ handed was) =
     λ v e. (
       ap (λ (t : Told). t.number) (says v e),
       ap bit_named (says v e),
-      handed_as was c.mend-v.last.0 v (says v e) c.mend-v.ensures.1,
+      handed_as was c.mend-v.new.block v (says v e) c.mend-v.ensures.1,
     ) in
     let a = answers Repeat c.in-Repeat.is in
     (a.0, a.1, a.2, refl)
@@ -96,11 +94,11 @@ returns-in-WrongLength c =
     λ v e. sym (ap told e) ∙ c.mend-v.ensures.0 in
     let answers : (v : Verdict) → c.mend-v.result ≡ v
     → ((told v).number ≡ (judged was).number) × (bit_named (told v) ≡ bit_named (judged was))
-    × (handed_by v c.mend-v.last.0 ≡ handed was) =
+    × (handed_by v c.mend-v.new.block ≡ handed was) =
     λ v e. (
       ap (λ (t : Told). t.number) (says v e),
       ap bit_named (says v e),
-      handed_as was c.mend-v.last.0 v (says v e) c.mend-v.ensures.1,
+      handed_as was c.mend-v.new.block v (says v e) c.mend-v.ensures.1,
     ) in
     let a = answers WrongLength c.in-WrongLength.is in
     (a.0, a.1, a.2, refl)

@@ -1,9 +1,9 @@
 -- `block_division::check_bits` meets its contract: m is the check bits so far, mirrored. Assumes nothing.
 use mathlib.Core.Path.{◌≡◌, refl, ap, ◌∙◌}
 use mathlib.Core.List.{List}
-use Prim.Native.Nat.{ℕ, ◌-◌, ◌≤◌, ◌<◌, zero-le}
+use Prim.Native.Nat.{ℕ, ◌<◌, zero-le}
 use native.Mathlib.Omega.{arith}
-use lib.ListN.{length, get_or, take}
+use lib.ListN.{get_or, take}
 use lib.Seq.{take_all}
 use lib.Bits.{bit_xor, xor_lt}
 use borrow.Author.Rules.{rules}

@@ -1,14 +1,6 @@
 -- `line_turns::take_turn` meets its contract. Assumes nothing.
-use mathlib.Core.Path.{◌≡◌, sym, ◌∙◌}
 use native.Mathlib.Omega.{arith}
-use borrow.Author.Rules.{rules}
 use Rattle.line_turns.proofs.Held.{goes_on, ends}
-use Rattle.line_turns.proofs.take_turn.Reads as reads
-use Rattle.line_turns.proofs.take_turn.Lts as lts
-use Rattle.line_receiver.proofs.Receiver.step.Reads as step-reads
-use Rattle.line_turns.proofs.holding.hold.Reads as hold-reads
-use Rattle.line_turns.proofs.notes.note_on.Reads as note-on-reads
-use Rattle.line_turns.proofs.only_held.Reads as only-held-reads
 use Rattle.line_turns.proofs.take_turn.Goals as goal
 
 -- src/lib.rt:59:9

@@ -1,5 +1,4 @@
 -- `links_commands::ask` meets its contract. Assumes nothing.
-use borrow.Author.Rules.{rules}
 use Rattle.links_commands.proofs.ask.Goals as goal
 
 pub returns-in-Is : goal.returns-in-Is

@@ -1,5 +1,4 @@
 -- `links_commands::link` meets its contract. Assumes nothing.
-use borrow.Author.Rules.{rules}
 use Rattle.links_commands.proofs.link.Goals as goal
 
 pub returns-in-Is-sender : goal.returns-in-Is-sender

@@ -1,6 +1,5 @@
 -- `links_commands::pro2` meets its contract. Assumes nothing.
 use borrow.Author.Tests.{eq-eqb, ne_eqb}
-use borrow.Author.Rules.{rules}
 use Rattle.links_commands.proofs.pro2.Goals as goal
 
 pub returns-then-first-eq98 : goal.returns-then-first-eq98

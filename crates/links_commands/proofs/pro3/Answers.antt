@@ -1,6 +1,5 @@
 -- `links_commands::pro3` meets its contract. Assumes nothing.
 use borrow.Author.Tests.{eq-eqb, ne_eqb}
-use borrow.Author.Rules.{rules}
 use Rattle.links_commands.proofs.pro3.Goals as goal
 
 pub returns-then-first-eq97 : goal.returns-then-first-eq97

@@ -1,5 +1,4 @@
 -- `links_commands::receiver` meets its contract. Assumes nothing.
-use borrow.Author.Tests.{ne_eqb}
 use Rattle.links_commands.proofs.receiver.Goals as goal
 
 pub returns-in-88 : goal.returns-in-88

@@ -1,5 +1,4 @@
 -- `links_commands::sender` meets its contract. Assumes nothing.
-use borrow.Author.Tests.{ne_eqb}
 use Rattle.links_commands.proofs.sender.Goals as goal
 
 pub returns-in-80 : goal.returns-in-80

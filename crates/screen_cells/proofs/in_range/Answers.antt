@@ -1,6 +1,5 @@
 -- `screen_cells::in_range` meets its contract. Assumes nothing.
 use borrow.Author.Tests.{le-leb, lt-leb}
-use borrow.Author.Rules.{rules}
 use Rattle.screen_cells.proofs.in_range.Goals as goal
 
 pub returns-then-cell-gt7 : goal.returns-then-cell-gt7

@@ -1,5 +1,4 @@
 -- `screen_cells::is_blank` meets its contract. Assumes nothing.
-use borrow.Author.Rules.{rules}
 use Rattle.screen_cells.proofs.is_blank.Goals as goal
 
 pub returns : goal.returns

@@ -1,6 +1,5 @@
 -- `screen_cells::same` meets its contract. Assumes nothing.
 use mathlib.Core.Path.{sym, ◌∙◌}
-use borrow.Author.Rules.{rules}
 use Rattle.screen_cells.proofs.same.Goals as goal
 
 pub returns-then-have_one_character : goal.returns-then-have_one_character

@@ -1,11 +1,10 @@
 -- `screen_sheet::clear` meets its contract: row 0 is copied over a thousand blank cells. Assumes nothing.
 use mathlib.Core.Path.{◌≡◌, ap, ◌∙◌}
 use mathlib.Core.List.{List, ◌++◌}
-use Prim.Native.Nat.{ℕ, ◌-◌, ◌≤◌, ◌<◌}
+use Prim.Native.Nat.{ℕ, ◌<◌}
 use native.Mathlib.Omega.{arith}
 use lib.Dec.{lit≤}
 use lib.ListN.{length, get_or, take, drop, set, replicate}
-use borrow.Author.Rules.{rules}
 use Rattle.laws.proofs.Lists.{put, length_mapped}
 use Rattle.screen_cells.specs.declared.Cell.{Cell}
 use Rattle.screen_cells.specs.Cells.{blank_of}

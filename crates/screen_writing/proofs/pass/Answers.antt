@@ -1,5 +1,4 @@
 -- `screen_writing::pass` meets its contract. Assumes nothing.
-use borrow.Author.Rules.{rules}
 use Rattle.screen_writing.proofs.pass.Goals as goal
 
 pub returns-then-takes_ground : goal.returns-then-takes_ground

@@ -1,5 +1,4 @@
 -- `screen_writing::write` meets its contract. Assumes nothing.
-use borrow.Author.Rules.{rules}
 use Rattle.screen_writing.proofs.write.Goals as goal
 
 pub returns : goal.returns

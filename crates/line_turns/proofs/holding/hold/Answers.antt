@@ -7,10 +7,6 @@ use lib.ListN.{length, take}
 use borrow.Author.Rules.{rules}
 use Rattle.line_turns.specs.Turns.{holds_more}
 use Rattle.line_turns.proofs.Held.{held_few, as_many, as_there, holds_some, holds_none}
-use Rattle.line_turns.proofs.holding.hold.Reads as reads
-use Rattle.line_turns.proofs.holding.hold.Lts as lts
-use Rattle.line_turns.proofs.holding.fill.Reads as fill-reads
-use Rattle.line_turns.proofs.holding.is_holding.Reads as is-holding-reads
 use Rattle.line_turns.proofs.holding.hold.Goals as goal
 
 -- src/holding.rt:58:17

@@ -1,8 +1,3 @@
-use borrow.Author.Rules.{rules}
-use Rattle.line_turns.proofs.holding.is_holding.Reads as reads
-use Rattle.line_turns.proofs.holding.is_holding.Lts as lts
-use Rattle.line_phases.proofs.awaits_more.Reads as awaits-more-reads
-use Rattle.line_receiver.proofs.in_range.Reads as in-range-reads
 use Rattle.line_turns.proofs.holding.is_holding.Goals as goal
 
 -- src/holding.rt:16:1

@@ -1,5 +1,4 @@
 -- `links_wiring::Table::row` meets its contract. Assumes nothing.
-use borrow.Author.Rules.{rules}
 use Rattle.links_wiring.proofs.Table.row.Goals as goal
 
 pub returns-in-Screen : goal.returns-in-Screen

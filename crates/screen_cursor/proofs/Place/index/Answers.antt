@@ -1,7 +1,6 @@
 -- `screen_cursor::Place::index` meets its contract. Assumes nothing.
 use mathlib.Core.Path.{refl}
 use native.Mathlib.Omega.{arith}
-use borrow.Author.Rules.{rules}
 use Rattle.screen_cursor.proofs.Place.index.Goals as goal
 
 pub returns-then-through-gt0 : goal.returns-then-through-gt0
