@@ -1,8 +1,11 @@
 // What the programs ask of the system: standard output, a line on standard error where something failed, a file by the
 // bytes of its name, input read in full portions, and the program's arguments.
 #![tactic(auto)]
-ghost use Rattle.std.specs.Prelude.{◌≤◌, length};
+
+ghost use Rattle.std.specs.Prelude.{◌≡◌, ◌≤◌, length, take, None, Some, IsNone, IsSome, MatchResult};
 ghost use Rattle.std.specs.Io.{ReadsAtMost};
+ghost use Rattle.std.specs.Io.KnownBytes.{Consumes};
+ghost use Rattle.system.specs.Faults.{fault_of};
 
 use std::env::{Env, FillError};
 use std::fs::Files;
@@ -26,24 +29,33 @@ pub struct Output {
 }
 
 impl Output {
-    pub fn new(to: Stdout) -> Output {
+    pub fn new(to: Stdout) -> Output
+        ensures { fault_of result ≡ None }
+    {
         Output { to, fault: None }
     }
 
-    pub fn write_all(&mut self, bytes: &[u8]) {
+    pub fn write_all(&mut self, bytes: &[u8])
+        ensures { IsSome (fault_of self.old) → self.new ≡ self.old }
+    {
         if self.fault.is_none() {
             self.fault = Print::write_all(&self.to, bytes).err();
         }
     }
 
-    pub fn print_decimal(&mut self, n: u64) {
+    pub fn print_decimal(&mut self, n: u64)
+        ensures { IsSome (fault_of self.old) → self.new ≡ self.old }
+    {
         if self.fault.is_none() {
             self.fault = self.to.print(n).err();
         }
     }
 
     // The fault, if there was one since it was last asked for.
-    pub fn fault(&mut self) -> io::Result<()> {
+    pub fn fault(&mut self) -> io::Result<()>
+        ensures told { MatchResult result (λ _. fault_of self.old ≡ None) (λ fault. fault_of self.old ≡ Some fault) }
+        ensures taken { fault_of self.new ≡ None }
+    {
         match self.fault.take() {
             Some(fault) => Err(fault),
             None => Ok(()),
@@ -82,9 +94,11 @@ pub fn open<R: Files>(files: &R, name: &[u8]) -> io::Result<R::File> {
     }
 }
 
-// Reads until `buf` is full, the input ends or a read fails: how many bytes it put at the start of `buf`.
-pub fn read_full(from: &mut impl Read, buf: &mut [u8]) -> usize
-    ensures { result ≤ length buf.new }
+// Reads until `buf` is full, the input ends or a read fails: how many bytes it put at the start of `buf`. They are those
+// that it read, and none is lost.
+pub fn read_full<R: Read>(from: &mut R, buf: &mut [u8]) -> usize
+    ensures bound { result ≤ length buf.new }
+    ensures bytes { Consumes (R.remaining from.old) (R.remaining from.new) (take result buf.new) }
 {
     let mut done = 0;
     while done < buf.len() {
