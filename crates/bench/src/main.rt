@@ -28,11 +28,11 @@ mod states;
 mod texts;
 
 use lent::{first, is, past};
+use std::env::{Env, FillError};
 use std::fs::Files;
-use std::io;
 use std::io::{Print, Read, Stderr};
-use std::rt::Env;
-use system::{Output, arg, arg_count, fail, open};
+use std::{fs, io};
+use system::{Output, arg, fail, path};
 use texts::starts;
 
 fn write_usage(err: Stderr) {
@@ -68,14 +68,14 @@ fn play(
 }
 
 // Obeys one mode on the file of that name. One that cannot be opened gets a line on standard error.
-fn obey(out: &mut Output, err: Stderr, files: &impl Files, mode: &[u8], name: &[u8]) {
+fn obey(out: &mut Output, mut err: Stderr, files: &impl Files, mode: &[u8], name: &[u8]) {
     let writing = starts(mode, b"write-");
     let part = if writing { past(mode, 6) } else { mode };
-    match open(files, name) {
+    match path(name).and_then(|path| fs::open(files, path)) {
         Ok(mut record) => play(out, err, mode, part, &mut record, writing),
         Err(fault) => {
             let _ = err.write_all(b"bench: ");
-            fail(err, name, fault);
+            let _ = fail(&mut err, name, fault);
         }
     }
 }
@@ -91,12 +91,23 @@ fn obey_pair(out: &mut Output, err: Stderr, rt: &(impl Env + Files), i: usize, j
     }
 }
 
+// How many arguments there are, the program's own name among them.
+fn argument_count(rt: &impl Env) -> usize {
+    let mut word = [0u8; 1];
+    for i in 0..usize::MAX {
+        if let Err(FillError::NotPresent) = rt.arg(i, &mut word) {
+            return i;
+        }
+    }
+    usize::MAX
+}
+
 // Obeys the pairs in turn. A mode without a file makes a pair too, so that its fault is told. What could not be written
 // on standard output is told at the end.
 fn main(rt: HostRuntime) -> io::Result<()> {
     let err = rt.stderr();
     let mut out = Output::new(rt.stdout());
-    let pairs = arg_count(&rt) / 2;
+    let pairs = argument_count(&rt) / 2;
     if pairs == 0 {
         write_usage(err);
     }

@@ -1,31 +1,28 @@
-// What the programs ask of the system: standard output, a line on standard error where something failed, a file by the
-// bytes of its name, input read in full portions, and the program's arguments.
+// What the programs ask of the system: standard output, the line that tells a fault, a file's name as text, input read in
+// full portions, and the program's arguments.
 #![tactic(auto)]
 
-ghost use Rattle.std.specs.Prelude.{◌≡◌, ◌≤◌, length, take, None, Some, IsNone, IsSome, MatchResult};
+ghost use Rattle.std.specs.Prelude.{◌≡◌, ◌≤◌, ◌++◌, ℕ, List, length, take, codes, None, Some, IsSome, IsUtf8, MatchResult, OnOk};
 ghost use Rattle.std.specs.Io.{ReadsAtMost};
-ghost use Rattle.std.specs.Io.KnownBytes.{Consumes};
+ghost use Rattle.std.specs.Io.KnownBytes.{Appends, Consumes};
 ghost use Rattle.system.specs.Faults.{fault_of};
 
 use std::env::{Env, FillError};
-use std::fs::Files;
-use std::io::{Cursor, Print, Read, Stderr, Stdout, Write};
-use std::{fs, io, str};
+use std::fmt::InlineText;
+use std::io::{Error, ErrorKind, Print, Read, Stdout, Write};
+use std::{io, str};
 
-// The system's numbers for an argument that is not there, for a name that is too long, and for a name that is no text:
-// std opens files by text alone.
+// The system's numbers for an argument that is not there, and for one that is longer than its room.
 const INVALID: i32 = 22;
 
 const TOO_LONG: i32 = 36;
-
-const NO_TEXT: i32 = 84;
 
 // Standard output, written piece by piece. From the first piece that could not be written on, nothing more is, until
 // the fault is asked for.
 #[derive(Drop)]
 pub struct Output {
     to: Stdout,
-    fault: Option<io::Error>,
+    fault: Option<Error>,
 }
 
 impl Output {
@@ -63,34 +60,34 @@ impl Output {
     }
 }
 
-// Writes a line to standard error: what failed, as the caller names it, a colon and what the system says. Where even
-// that cannot be written, nothing is left that could say so.
-pub fn fail(err: Stderr, what: &[u8], fault: io::Error) {
-    let mut text = Cursor::new([0u8; 128]);
-    let _ = write!(text, "{fault}");
-    let text = text.into_inner();
-    let _ = Print::write_all(&err, what);
-    let _ = Print::write_all(&err, b": ");
-    let _ = Print::write_all(&err, said(&text));
-    let _ = Print::write_all(&err, b"\n");
+// Writes a line, to standard error where a program tells a fault: what failed, as the caller names it, a colon, and what
+// the system says.
+pub fn fail<W: Write>(err: &mut W, what: &[u8], fault: Error) -> io::Result<()>
+    ensures { OnOk result ((words : List ℕ)
+        × Appends (W.contents err.old) (W.contents err.new) (what.now ++ (codes ": " ++ (words ++ codes "\n")))) }
+{
+    let said = InlineText::<128>::of(fault);
+    err.write_all(what)?;
+    err.write_all(b": ")?;
+    err.write_all(words(said.as_str()).as_bytes())?;
+    err.write_all(b"\n")
 }
 
-// The words of a fault, without the number that std puts behind them.
-fn said(text: &[u8]) -> &[u8] {
-    for i in 0..text.len() {
-        let rest = &text[i..];
-        if rest[0] == 0 || rest.starts_with(b" (os error ") {
-            return &text[..i];
-        }
+// What the system says of a fault: its words, without the number that std puts behind them.
+fn words(said: &str) -> &str {
+    match said.find(" (os error ") {
+        Some(end) => &said[..end],
+        None => said,
     }
-    text
 }
 
-// Opens the file of that name for reading.
-pub fn open<R: Files>(files: &R, name: &[u8]) -> io::Result<R::File> {
+// A file's name as text, by which alone std opens a file.
+pub fn path(name: &[u8]) -> io::Result<&str>
+    ensures { MatchResult result (λ path. (path.now ≡ name.now) × IsUtf8 name.now) (λ _. ¬ (IsUtf8 name.now)) }
+{
     match str::from_utf8(name) {
-        Ok(path) => fs::open(files, path),
-        Err(_) => Err(io::Error::from_raw_os_error(NO_TEXT)),
+        Ok(path) => Ok(path),
+        Err(_) => Err(Error::new(ErrorKind::InvalidInput, "its name is not UTF-8")),
     }
 }
 
@@ -111,23 +108,13 @@ pub fn read_full<R: Read>(from: &mut R, buf: &mut [u8]) -> usize
     done
 }
 
-// How many arguments the program was started with, its own name among them.
-pub fn arg_count(env: &impl Env) -> usize {
-    for i in 0..usize::MAX {
-        if let Err(FillError::NotPresent) = env.arg(i, &mut []) {
-            return i;
-        }
-    }
-    usize::MAX
-}
-
 // Puts argument `i` at the start of `buf`: its length, or why it is not all there.
 pub fn arg(env: &impl Env, i: usize, buf: &mut [u8]) -> io::Result<usize>
     ensures { ReadsAtMost result buf.new }
 {
     match env.arg(i, buf) {
         Ok(n) => Ok(n),
-        Err(FillError::NotPresent) => Err(io::Error::from_raw_os_error(INVALID)),
-        Err(FillError::TooLong) => Err(io::Error::from_raw_os_error(TOO_LONG)),
+        Err(FillError::NotPresent) => Err(Error::from_raw_os_error(INVALID)),
+        Err(FillError::TooLong) => Err(Error::from_raw_os_error(TOO_LONG)),
     }
 }

@@ -41,14 +41,20 @@ fn take(mut at: At, portion: &[u8], line: &mut [u8]) -> At {
 
 // Reads the next portion. Where there is none the line ends with the script; where it cannot be read there is no line,
 // but an error line with `name`.
-fn read(err: Stderr, script: &mut impl Read, name: &[u8], mut at: At, portion: &mut [u8]) -> At {
+fn read(
+    mut err: Stderr,
+    script: &mut impl Read,
+    name: &[u8],
+    mut at: At,
+    portion: &mut [u8],
+) -> At {
     at.from = 0;
     at.to = 0;
     match script.read(portion) {
         Ok(got) => at.to = got,
         Err(fault) => {
             at.length = 0;
-            fail(err, name, fault);
+            let _ = fail(&mut err, name, fault);
         }
     }
     at.whole = at.to == 0;

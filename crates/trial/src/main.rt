@@ -37,10 +37,11 @@ use line_receiver::Receiver;
 use lines::{At, LONGEST};
 use links::Links;
 use screen_page::Screen;
-use std::env::Env;
+use std::env::{Env, FillError};
+use std::fs;
 use std::fs::Files;
 use std::io::{Read, Stderr};
-use system::{Output, arg, arg_count, fail, open};
+use system::{Output, arg, fail, path};
 use words::{NONE, after, part, place_among};
 
 // Whether a line gets an answer: an empty one and a remark do not, however long.
@@ -60,7 +61,7 @@ fn family(line: &[u8], length: usize) -> usize {
 }
 
 // Ends the answer to a line, which is `? NUMBER` where it is no command; false where it could not be written.
-fn end(out: &mut Output, err: Stderr, known: bool, number: u64) -> bool {
+fn end(out: &mut Output, mut err: Stderr, known: bool, number: u64) -> bool {
     if !known {
         out.write_all(b"? ");
         out.print_decimal(number);
@@ -69,7 +70,7 @@ fn end(out: &mut Output, err: Stderr, known: bool, number: u64) -> bool {
     match out.fault() {
         Ok(()) => true,
         Err(fault) => {
-            fail(err, b"standard output", fault);
+            let _ = fail(&mut err, b"standard output", fault);
             false
         }
     }
@@ -118,27 +119,40 @@ fn run(out: &mut Output, err: Stderr, script: &mut impl Read, name: &[u8]) {
 }
 
 // Runs the script that argument `i` names. One that cannot be opened gets a line on standard error.
-fn run_file(out: &mut Output, err: Stderr, rt: &(impl Env + Files), i: usize) {
-    let mut path = [0u8; 4096];
-    let length = match arg(rt, i, &mut path) {
+fn run_file(out: &mut Output, mut err: Stderr, rt: &(impl Env + Files), i: usize) {
+    let mut word = [0u8; 4096];
+    let length = match arg(rt, i, &mut word) {
         Ok(length) => length,
         Err(fault) => {
-            fail(err, b"the name of a script", fault);
+            let _ = fail(&mut err, b"the name of a script", fault);
             return;
         }
     };
-    let name = &path[0..length];
-    match open(rt, name) {
+    let name = &word[0..length];
+    match path(name).and_then(|path| fs::open(rt, path)) {
         Ok(mut script) => run(out, err, &mut script, name),
-        Err(fault) => fail(err, name, fault),
+        Err(fault) => {
+            let _ = fail(&mut err, name, fault);
+        }
     }
+}
+
+// How many arguments there are, the program's own name among them.
+fn argument_count(rt: &impl Env) -> usize {
+    let mut word = [0u8; 1];
+    for i in 0..usize::MAX {
+        if let Err(FillError::NotPresent) = rt.arg(i, &mut word) {
+            return i;
+        }
+    }
+    usize::MAX
 }
 
 // Runs the scripts that the arguments name, or standard input where there are none.
 fn main(rt: HostRuntime) {
     let err = rt.stderr();
     let mut out = Output::new(rt.stdout());
-    let count = arg_count(&rt);
+    let count = argument_count(&rt);
     if count < 2 {
         run(&mut out, err, &mut rt.stdin(), b"standard input");
         return;
