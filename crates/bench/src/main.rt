@@ -29,14 +29,20 @@ mod texts;
 
 use lent::{first, is, past};
 use std::env::{Env, FillError};
+use std::fs;
 use std::fs::Files;
-use std::io::{Print, Read, Stderr};
-use std::{fs, io};
+use std::io::{Error, Print, Read, Stderr};
 use system::{Output, arg, fail, path};
 use texts::starts;
 
 fn write_usage(err: Stderr) {
     let _ = err.write_all(b"usage: bench (MODE FILE)...\n");
+}
+
+// Tells a fault of a file, or of what else is named.
+fn tell(mut err: Stderr, what: &[u8], fault: Error) {
+    let _ = err.write_all(b"bench: ");
+    let _ = fail(&mut err, what, fault);
 }
 
 // Plays an open file by a mode, of which `part` is what stands behind `write-`, where it is a writing one.
@@ -68,15 +74,12 @@ fn play(
 }
 
 // Obeys one mode on the file of that name. One that cannot be opened gets a line on standard error.
-fn obey(out: &mut Output, mut err: Stderr, files: &impl Files, mode: &[u8], name: &[u8]) {
+fn obey(out: &mut Output, err: Stderr, files: &impl Files, mode: &[u8], name: &[u8]) {
     let writing = starts(mode, b"write-");
     let part = if writing { past(mode, 6) } else { mode };
     match path(name).and_then(|path| fs::open(files, path)) {
         Ok(mut record) => play(out, err, mode, part, &mut record, writing),
-        Err(fault) => {
-            let _ = err.write_all(b"bench: ");
-            let _ = fail(&mut err, name, fault);
-        }
+        Err(fault) => tell(err, name, fault),
     }
 }
 
@@ -104,7 +107,7 @@ fn argument_count(rt: &impl Env) -> usize {
 
 // Obeys the pairs in turn. A mode without a file makes a pair too, so that its fault is told. What could not be written
 // on standard output is told at the end.
-fn main(rt: HostRuntime) -> io::Result<()> {
+fn main(rt: HostRuntime) {
     let err = rt.stderr();
     let mut out = Output::new(rt.stdout());
     let pairs = argument_count(&rt) / 2;
@@ -114,5 +117,7 @@ fn main(rt: HostRuntime) -> io::Result<()> {
     for i in 0..pairs {
         obey_pair(&mut out, err, &rt, 2 * i + 1, 2 * i + 2);
     }
-    out.fault()
+    if let Err(fault) = out.fault() {
+        tell(err, b"standard output", fault);
+    }
 }
