@@ -5,6 +5,8 @@ use crate::states::{put_links, put_receiver};
 use crate::texts::{put, put_lines, put_number, sum};
 use board::Board;
 use lent::first;
+use std::io::Read;
+use system::{Output, read_full};
 
 // As many bytes as an output may need for a piece of up to 4,096: with sixteen bytes held before it, and five for each
 // value. The keeper's program has the same.
@@ -35,14 +37,14 @@ fn begun() -> Play {
     }
 }
 
-fn put_board(board: Board) {
-    put_receiver(board.receiver);
-    put_links(board.links);
-    put_screen(board.screen);
+fn put_board(out: &mut Output, board: Board) {
+    put_receiver(out, board.receiver);
+    put_links(out, board.links);
+    put_screen(out, board.screen);
 }
 
 // A portion of line bytes. It is taken; were it not, the counts would show it.
-fn hear_portion(play: Play, piece: &[u8], writing: bool) -> Play {
+fn hear_portion(out: &mut Output, play: Play, piece: &[u8], writing: bool) -> Play {
     let mut keyboard = [0u8; ROOM];
     let mut modem = [0u8; ROOM];
     let mut socket = [0u8; ROOM];
@@ -57,11 +59,11 @@ fn hear_portion(play: Play, piece: &[u8], writing: bool) -> Play {
     );
     let board = heard.next;
     if writing {
-        put_lines(b"keyboard ", first(&keyboard, heard.keyboard));
-        put_lines(b"modem ", first(&modem, heard.modem));
-        put_lines(b"socket ", first(&socket, heard.socket));
-        put_lines(b"requests ", first(&requests, heard.requests));
-        put_board(board);
+        put_lines(out, b"keyboard ", first(&keyboard, heard.keyboard));
+        put_lines(out, b"modem ", first(&modem, heard.modem));
+        put_lines(out, b"socket ", first(&socket, heard.socket));
+        put_lines(out, b"requests ", first(&requests, heard.requests));
+        put_board(out, board);
     }
     Play {
         board,
@@ -72,20 +74,20 @@ fn hear_portion(play: Play, piece: &[u8], writing: bool) -> Play {
     }
 }
 
-pub(crate) fn hear(fd: i32, writing: bool) {
+pub(crate) fn hear(out: &mut Output, record: &mut impl Read, writing: bool) {
     let mut portion = [0u8; PORTION];
     let mut play = begun();
-    let mut n = io::read_full(fd, &mut portion);
-    let mut turns = u64::MAX;
-    while turns > 0 && n > 0 {
-        play = hear_portion(play, first(&portion, n), writing);
-        n = io::read_full(fd, &mut portion);
-        turns -= 1;
+    for _ in 0..u64::MAX {
+        let n = read_full(record, &mut portion);
+        if n == 0 {
+            break;
+        }
+        play = hear_portion(out, play, first(&portion, n), writing);
     }
-    put_number(b"path: keyboard ", play.keyboard);
-    put_number(b", modem ", play.modem);
-    put_number(b", socket ", play.socket);
-    put_number(b", requests ", play.requests);
-    put(b" bytes\n");
-    put_board(play.board);
+    put_number(out, b"path: keyboard ", play.keyboard);
+    put_number(out, b", modem ", play.modem);
+    put_number(out, b", socket ", play.socket);
+    put_number(out, b", requests ", play.requests);
+    put(out, b" bytes\n");
+    put_board(out, play.board);
 }

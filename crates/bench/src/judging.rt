@@ -2,6 +2,8 @@
 use crate::portions::PORTION;
 use crate::texts::{put, put_bytes, put_number, sum};
 use block_reader::Verdict;
+use std::io::Read;
+use system::{Output, read_full};
 
 #[derive(Clone, Copy)]
 pub(crate) struct Counts {
@@ -30,75 +32,76 @@ pub(crate) fn counted(mut counts: Counts, verdict: Verdict) -> Counts {
     counts
 }
 
-pub(crate) fn put_counts(counts: Counts) {
-    put_number(b": clean ", counts.clean);
-    put_number(b", mended ", counts.mended);
-    put_number(b", repeat ", counts.repeat);
-    put_number(b", wrong length ", counts.wrong_length);
-    put(b"\n");
+pub(crate) fn put_counts(out: &mut Output, counts: Counts) {
+    put_number(out, b": clean ", counts.clean);
+    put_number(out, b", mended ", counts.mended);
+    put_number(out, b", repeat ", counts.repeat);
+    put_number(out, b", wrong length ", counts.wrong_length);
+    put(out, b"\n");
 }
 
-pub(crate) fn put_verdict(verdict: Verdict) {
+pub(crate) fn put_verdict(out: &mut Output, verdict: Verdict) {
     match verdict {
-        Verdict::Clean => put(b"clean"),
-        Verdict::Mended(bit) => put_number(b"mended ", bit as u64),
-        Verdict::Repeat => put(b"repeat"),
-        Verdict::WrongLength => put(b"wrong length"),
+        Verdict::Clean => put(out, b"clean"),
+        Verdict::Mended(bit) => put_number(out, b"mended ", bit as u64),
+        Verdict::Repeat => put(out, b"repeat"),
+        Verdict::WrongLength => put(out, b"wrong length"),
     }
 }
 
 // A block of any length: its verdict, and where that is wanted the block as it is left.
-fn judge_one(block: &mut [u8], writing: bool) -> Verdict {
+fn judge_one(out: &mut Output, block: &mut [u8], writing: bool) -> Verdict {
     let verdict = block_reader::mend(block);
     if writing {
-        put_bytes(b"", block);
-        put(b" ");
-        put_verdict(verdict);
-        put(b"\n");
+        put_bytes(out, b"", block);
+        put(out, b" ");
+        put_verdict(out, verdict);
+        put(out, b"\n");
     }
     verdict
 }
 
 // The first block of what is left of a portion; the last may be short.
-fn judge_next(rest: &mut [u8], writing: bool) -> Verdict {
+fn judge_next(out: &mut Output, rest: &mut [u8], writing: bool) -> Verdict {
     if 17 < rest.len() {
-        return judge_one(&mut rest[0..17], writing);
+        return judge_one(out, &mut rest[0..17], writing);
     }
-    judge_one(rest, writing)
+    judge_one(out, rest, writing)
 }
 
 // Each block of a portion.
-fn judge_all(portion: &mut [u8], begun: Counts, writing: bool) -> Counts {
+fn judge_all(out: &mut Output, portion: &mut [u8], begun: Counts, writing: bool) -> Counts {
     let mut counts = begun;
-    let mut from = 0;
-    while from < portion.len() {
-        counts = counted(counts, judge_next(&mut portion[from..], writing));
-        if portion.len() - from <= 17 {
-            return counts;
-        }
-        from += 17;
+    for from in (0..portion.len()).step_by(17) {
+        counts = counted(counts, judge_next(out, &mut portion[from..], writing));
     }
     counts
 }
 
 // The same of a portion of which so many bytes are filled.
-fn judge_filled(portion: &mut [u8], n: usize, counts: Counts, writing: bool) -> Counts {
+fn judge_filled(
+    out: &mut Output,
+    portion: &mut [u8],
+    n: usize,
+    counts: Counts,
+    writing: bool,
+) -> Counts {
     if n < portion.len() {
-        return judge_all(&mut portion[0..n], counts, writing);
+        return judge_all(out, &mut portion[0..n], counts, writing);
     }
-    judge_all(portion, counts, writing)
+    judge_all(out, portion, counts, writing)
 }
 
-pub(crate) fn judge(fd: i32, writing: bool) {
+pub(crate) fn judge(out: &mut Output, record: &mut impl Read, writing: bool) {
     let mut portion = [0u8; PORTION];
     let mut counts = nothing();
-    let mut n = io::read_full(fd, &mut portion);
-    let mut turns = u64::MAX;
-    while turns > 0 && n > 0 {
-        counts = judge_filled(&mut portion, n, counts, writing);
-        n = io::read_full(fd, &mut portion);
-        turns -= 1;
+    for _ in 0..u64::MAX {
+        let n = read_full(record, &mut portion);
+        if n == 0 {
+            break;
+        }
+        counts = judge_filled(out, &mut portion, n, counts, writing);
     }
-    put(b"judge");
-    put_counts(counts);
+    put(out, b"judge");
+    put_counts(out, counts);
 }

@@ -5,6 +5,8 @@ use crate::texts::{put, put_lines, put_number, sum};
 use board_feeding::{Outlet, Shares};
 use lent::first;
 use links::Links;
+use std::io::Read;
+use system::{Output, read_full};
 
 // Links, and how many bytes each module got.
 #[derive(Clone, Copy)]
@@ -16,16 +18,16 @@ struct Handed {
     socket: u64,
 }
 
-fn put_outlet(name: &[u8], outlet: Outlet) {
+fn put_outlet(out: &mut Output, name: &[u8], outlet: Outlet) {
     let codes = outlet.codes;
-    put_lines(name, first(&codes, outlet.count));
+    put_lines(out, name, first(&codes, outlet.count));
 }
 
-fn put_shares(shares: Shares) {
-    put_outlet(b"screen ", shares.screen);
-    put_outlet(b"keyboard ", shares.keyboard);
-    put_outlet(b"modem ", shares.modem);
-    put_outlet(b"socket ", shares.socket);
+fn put_shares(out: &mut Output, shares: Shares) {
+    put_outlet(out, b"screen ", shares.screen);
+    put_outlet(out, b"keyboard ", shares.keyboard);
+    put_outlet(out, b"modem ", shares.modem);
+    put_outlet(out, b"socket ", shares.socket);
 }
 
 #[derive(Clone, Copy)]
@@ -39,10 +41,8 @@ fn taken(rest: &[u8]) -> Fifteen {
         return short(rest);
     }
     let mut values = [0u8; 15];
-    let mut i = 0;
-    while i < 15 {
+    for i in 0..15 {
         values[i] = rest[i];
-        i += 1;
     }
     Fifteen { values }
 }
@@ -50,10 +50,8 @@ fn taken(rest: &[u8]) -> Fifteen {
 // The values of a group that is short, with zeros behind them.
 fn short(rest: &[u8]) -> Fifteen {
     let mut values = [0u8; 15];
-    let mut i = 0;
-    while i < 15 {
+    for i in 0..15 {
         values[i] = value_at(rest, i);
-        i += 1;
     }
     Fifteen { values }
 }
@@ -66,14 +64,14 @@ fn value_at(rest: &[u8], i: usize) -> u8 {
 }
 
 // The first group of what is left of a portion. Of a count above fifteen the links take fifteen.
-fn feed_next(handed: Handed, rest: &[u8], writing: bool) -> Handed {
+fn feed_next(out: &mut Output, handed: Handed, rest: &[u8], writing: bool) -> Handed {
     let group = taken(rest);
     let values = group.values;
     let fed = board_feeding::feed(handed.links, values, rest.len());
     let links = fed.links;
     let shares = fed.shares;
     if writing {
-        put_shares(shares);
+        put_shares(out, shares);
     }
     Handed {
         links,
@@ -85,20 +83,15 @@ fn feed_next(handed: Handed, rest: &[u8], writing: bool) -> Handed {
 }
 
 // Each group of a portion.
-fn feed_all(start: Handed, portion: &[u8], writing: bool) -> Handed {
+fn feed_all(out: &mut Output, start: Handed, portion: &[u8], writing: bool) -> Handed {
     let mut handed = start;
-    let mut from = 0;
-    while from < portion.len() {
-        handed = feed_next(handed, &portion[from..], writing);
-        if portion.len() - from <= 15 {
-            return handed;
-        }
-        from += 15;
+    for from in (0..portion.len()).step_by(15) {
+        handed = feed_next(out, handed, &portion[from..], writing);
     }
     handed
 }
 
-pub(crate) fn link(fd: i32, writing: bool) {
+pub(crate) fn link(out: &mut Output, record: &mut impl Read, writing: bool) {
     let mut portion = [0u8; PORTION];
     let mut handed = Handed {
         links: Links::connected(),
@@ -107,18 +100,18 @@ pub(crate) fn link(fd: i32, writing: bool) {
         modem: 0,
         socket: 0,
     };
-    let mut n = io::read_full(fd, &mut portion);
-    let mut turns = u64::MAX;
-    while turns > 0 && n > 0 {
+    for _ in 0..u64::MAX {
+        let n = read_full(record, &mut portion);
+        if n == 0 {
+            break;
+        }
         remove_parity(&mut portion);
-        handed = feed_all(handed, first(&portion, n), writing);
-        n = io::read_full(fd, &mut portion);
-        turns -= 1;
+        handed = feed_all(out, handed, first(&portion, n), writing);
     }
-    put_number(b"links: screen ", handed.screen);
-    put_number(b", keyboard ", handed.keyboard);
-    put_number(b", modem ", handed.modem);
-    put_number(b", socket ", handed.socket);
-    put(b" bytes\n");
-    put_links(handed.links);
+    put_number(out, b"links: screen ", handed.screen);
+    put_number(out, b", keyboard ", handed.keyboard);
+    put_number(out, b", modem ", handed.modem);
+    put_number(out, b", socket ", handed.socket);
+    put(out, b" bytes\n");
+    put_links(out, handed.links);
 }

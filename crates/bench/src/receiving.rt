@@ -7,6 +7,8 @@ use block_reader::Verdict;
 use lent::first;
 use line_receiver::{Judged, Receiver, Stepped};
 use line_turns::take_turn;
+use std::io::Read;
+use system::{Output, read_full};
 
 // A receiver, what it judged, and how many bytes it handed out.
 #[derive(Clone, Copy)]
@@ -29,20 +31,20 @@ fn begun() -> Heard {
 }
 
 // A block that was judged, with what was handed out.
-fn put_block(verdict: Verdict, done: Stepped) {
+fn put_block(out: &mut Output, verdict: Verdict, done: Stepped) {
     let values = done.values;
     let request = done.request;
-    put_verdict(verdict);
+    put_verdict(out, verdict);
     if done.passed > 0 {
-        put_bytes(b" ", first(&values, done.passed));
+        put_bytes(out, b" ", first(&values, done.passed));
     }
     if done.asked > 0 {
-        put_bytes(b" ", first(&request, done.asked));
+        put_bytes(out, b" ", first(&request, done.asked));
     }
-    put(b"\n");
+    put(out, b"\n");
 }
 
-fn taken(mut heard: Heard, done: Stepped, writing: bool) -> Heard {
+fn taken(out: &mut Output, mut heard: Heard, done: Stepped, writing: bool) -> Heard {
     let next = done.next;
     let judged = done.judged;
     heard.receiver = next;
@@ -52,43 +54,41 @@ fn taken(mut heard: Heard, done: Stepped, writing: bool) -> Heard {
         let counts = counted(heard.counts, verdict);
         heard.counts = counts;
         if writing {
-            put_block(verdict, done);
+            put_block(out, verdict, done);
         }
     }
     heard
 }
 
 // A portion, turn by turn; there are no more of them than bytes.
-fn take_all(start: Heard, portion: &[u8], writing: bool) -> Heard {
+fn take_all(out: &mut Output, start: Heard, portion: &[u8], writing: bool) -> Heard {
     let mut heard = start;
-    let mut i = 0;
-    let mut most = portion.len();
-    while most > 0 {
+    let mut i: usize = 0;
+    for _ in 0..portion.len() {
         if i >= portion.len() {
             return heard;
         }
         let turn = take_turn(heard.receiver, &portion[i..]);
-        heard = taken(heard, turn.stepped, writing);
-        i = std::num::wrapping_add_usize(i, turn.took);
-        most -= 1;
+        heard = taken(out, heard, turn.stepped, writing);
+        i = i.wrapping_add(turn.took);
     }
     heard
 }
 
-pub(crate) fn receive(fd: i32, writing: bool) {
+pub(crate) fn receive(out: &mut Output, record: &mut impl Read, writing: bool) {
     let mut portion = [0u8; PORTION];
     let mut heard = begun();
-    let mut n = io::read_full(fd, &mut portion);
-    let mut turns = u64::MAX;
-    while turns > 0 && n > 0 {
-        heard = take_all(heard, first(&portion, n), writing);
-        n = io::read_full(fd, &mut portion);
-        turns -= 1;
+    for _ in 0..u64::MAX {
+        let n = read_full(record, &mut portion);
+        if n == 0 {
+            break;
+        }
+        heard = take_all(out, heard, first(&portion, n), writing);
     }
-    put(b"receiver");
-    put_counts(heard.counts);
-    put_number(b"passed on ", heard.passed);
-    put_number(b", asked ", heard.asked);
-    put(b" bytes\n");
-    put_receiver(heard.receiver);
+    put(out, b"receiver");
+    put_counts(out, heard.counts);
+    put_number(out, b"passed on ", heard.passed);
+    put_number(out, b", asked ", heard.asked);
+    put(out, b" bytes\n");
+    put_receiver(out, heard.receiver);
 }

@@ -4,31 +4,33 @@ use crate::portions::{PORTION, remove_parity};
 use crate::texts::{put, put_number, sum};
 use lent::first;
 use screen_page::Screen;
+use std::io::Read;
+use system::{Output, read_full};
 
 // A portion of values. They are all taken; were they not, the page would show it.
-fn run(screen: Screen, values: &[u8], writing: bool) -> Screen {
+fn run(out: &mut Output, screen: Screen, values: &[u8], writing: bool) -> Screen {
     let ran = screen::run(screen, values);
     let next = ran.screen;
     if writing {
-        put_screen(next);
+        put_screen(out, next);
     }
     next
 }
 
-pub(crate) fn show(fd: i32, writing: bool) {
+pub(crate) fn show(out: &mut Output, record: &mut impl Read, writing: bool) {
     let mut portion = [0u8; PORTION];
     let mut screen = Screen::fresh();
     let mut values = 0;
-    let mut n = io::read_full(fd, &mut portion);
-    let mut turns = u64::MAX;
-    while turns > 0 && n > 0 {
+    for _ in 0..u64::MAX {
+        let n = read_full(record, &mut portion);
+        if n == 0 {
+            break;
+        }
         remove_parity(&mut portion);
-        screen = run(screen, first(&portion, n), writing);
+        screen = run(out, screen, first(&portion, n), writing);
         values = sum(values, n);
-        n = io::read_full(fd, &mut portion);
-        turns -= 1;
     }
-    put_number(b"screen: ", values);
-    put(b" values\n");
-    put_screen(screen);
+    put_number(out, b"screen: ", values);
+    put(out, b" values\n");
+    put_screen(out, screen);
 }

@@ -1,34 +1,25 @@
 // Texts and numbers on standard output.
 use lent::{add, first};
+use system::Output;
 
 // Whether it starts with a word.
 pub(crate) fn starts(s: &[u8], word: &[u8]) -> bool {
-    if s.len() < word.len() {
-        return false;
-    }
-    let mut i = 0;
-    while i < word.len() {
-        if s[i] != word[i] {
-            return false;
-        }
-        i += 1;
-    }
-    true
+    s.starts_with(word)
 }
 
 // A sum that stays within its type, so that a count has no bound to prove. No file is so long that it is reached.
 pub(crate) fn sum(a: u64, n: usize) -> u64 {
-    std::num::wrapping_add_u64(a, n as u64)
+    a.wrapping_add(n as u64)
 }
 
-pub(crate) fn put(words: &[u8]) {
-    io::write_all(libc::STDOUT_FILENO, words);
+pub(crate) fn put(out: &mut Output, words: &[u8]) {
+    out.write_all(words);
 }
 
 // Words, and a number behind them.
-pub(crate) fn put_number(words: &[u8], n: u64) {
-    put(words);
-    io::print_decimal(libc::STDOUT_FILENO, n);
+pub(crate) fn put_number(out: &mut Output, words: &[u8], n: u64) {
+    put(out, words);
+    out.print_decimal(n);
 }
 
 // A digit of base sixteen.
@@ -49,31 +40,24 @@ fn pair(byte: u8) -> [u8; 2] {
 const LINE: usize = 75;
 
 // Words, and at most LINE bytes behind them, or a dash where there are none.
-pub(crate) fn put_bytes(words: &[u8], bytes: &[u8]) {
+pub(crate) fn put_bytes(out: &mut Output, words: &[u8], bytes: &[u8]) {
     let mut text = [b'-'; 2 * LINE];
     let mut at = 0;
-    let mut i = 0;
-    while i < bytes.len() {
-        let two = pair(bytes[i]);
+    for byte in bytes {
+        let two = pair(*byte);
         at = add(&two, &mut text, at);
-        i += 1;
     }
-    if i == 0 {
+    if bytes.len() == 0 {
         at = 1;
     }
-    put(words);
-    put(first(&text, at));
+    put(out, words);
+    put(out, first(&text, at));
 }
 
 // Bytes behind a name, in lines of LINE at most; nothing where there are none.
-pub(crate) fn put_lines(name: &[u8], bytes: &[u8]) {
-    let mut from = 0;
-    while from < bytes.len() {
-        put_bytes(name, first(&bytes[from..], LINE));
-        put(b"\n");
-        if bytes.len() - from <= LINE {
-            return;
-        }
-        from += LINE;
+pub(crate) fn put_lines(out: &mut Output, name: &[u8], bytes: &[u8]) {
+    for from in (0..bytes.len()).step_by(LINE) {
+        put_bytes(out, name, first(&bytes[from..], LINE));
+        put(out, b"\n");
     }
 }

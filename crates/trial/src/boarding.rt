@@ -12,6 +12,7 @@ use crate::telling::{answer, dump, put};
 use crate::wires::links_of;
 use crate::words::{after, byte, part, place_among};
 use board::{Board, Outcome};
+use system::Output;
 
 // What words ask of the board.
 #[derive(Clone, Copy)]
@@ -77,18 +78,18 @@ fn plain_of(name: &[u8]) -> Wish {
 
 // Answers a command of this family, from its second word on and up to the end of the line: the board after it. Words
 // that are no command leave it as it is, and are not `known`.
-pub(crate) fn obey(words: &[u8], now: Board, known: &mut bool) -> Board {
+pub(crate) fn obey(out: &mut Output, words: &[u8], now: Board, known: &mut bool) -> Board {
     let wish = wish_of(words, known);
     match wish {
         Wish::Nothing => {
             *known = false;
             now
         }
-        Wish::Dump => dump(now),
-        Wish::Fresh => put(Board::fresh()),
-        Wish::Load => load(words, now, known),
-        Wish::Lines => lines(after(words, b' ', 1), now, known),
-        Wish::Call(call) => answer(called(call, now)),
+        Wish::Dump => dump(out, now),
+        Wish::Fresh => put(out, Board::fresh()),
+        Wish::Load => load(out, words, now, known),
+        Wish::Lines => lines(out, after(words, b' ', 1), now, known),
+        Wish::Call(call) => answer(out, called(call, now)),
     }
 }
 
@@ -107,7 +108,7 @@ fn called(call: Call, now: Board) -> Outcome {
 }
 
 // `rx`, `lnk` or `scr`, and the state of that part.
-fn load(words: &[u8], now: Board, known: &mut bool) -> Board {
+fn load(out: &mut Output, words: &[u8], now: Board, known: &mut bool) -> Board {
     let given = after(words, b' ', 1);
     let mut receiver = now.receiver;
     let mut links = now.links;
@@ -118,11 +119,14 @@ fn load(words: &[u8], now: Board, known: &mut bool) -> Board {
         _ => screen = screen_of(given, known),
     }
     if *known {
-        return put(Board {
-            receiver,
-            links,
-            screen,
-        });
+        return put(
+            out,
+            Board {
+                receiver,
+                links,
+                screen,
+            },
+        );
     }
     now
 }

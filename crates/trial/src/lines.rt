@@ -1,7 +1,9 @@
 // A script cut into lines. It arrives in portions, and a line may begin in one and end in another; a line ends with LF,
 // and the last may lack it.
-use bytes::scan::find;
+use crate::words::find;
 use lent::add;
+use std::io::{Read, Stderr};
+use system::fail;
 
 // As many characters as a line may have. The memory lent for one has a place more, by which a longer one is known.
 pub(crate) const LONGEST: usize = 9000;
@@ -27,42 +29,59 @@ fn take(mut at: At, portion: &[u8], line: &mut [u8]) -> At {
     if to > portion.len() {
         return at;
     }
-    let e = find(portion, from, to, b'\n');
-    at.length = add(&portion[from..e], line, at.length);
-    if e < to {
+    let rest = &portion[from..to];
+    let e = find(rest, b'\n');
+    at.length = add(&rest[..e], line, at.length);
+    if e < rest.len() {
         at.whole = true;
-        at.from = e + 1;
+        at.from = from + e + 1;
     }
     at
 }
 
 // Reads the next portion. Where there is none the line ends with the script; where it cannot be read there is no line,
 // but an error line with `name`.
-fn read(fd: i32, name: &[u8], mut at: At, portion: &mut [u8]) -> At {
-    let got = libc::read(fd, portion);
+fn read(
+    mut err: Stderr,
+    script: &mut impl Read,
+    name: &[u8],
+    mut at: At,
+    portion: &mut [u8],
+) -> At {
     at.from = 0;
-    at.to = io::count(got, portion);
-    at.whole = got <= 0;
-    at.ended = got <= 0;
-    if got < 0 {
-        at.length = 0;
-        os::fail(name);
+    at.to = 0;
+    match script.read(portion) {
+        Ok(got) => at.to = got,
+        Err(fault) => {
+            at.length = 0;
+            let _ = fail(&mut err, name, fault);
+        }
     }
+    at.whole = at.to == 0;
+    at.ended = at.to == 0;
     at
 }
 
 // Cuts the next line: first what is left of the portion before, then portion by portion. No script has more portions
 // than turns.
-pub(crate) fn cut(fd: i32, name: &[u8], was: At, portion: &mut [u8], line: &mut [u8]) -> At {
+pub(crate) fn cut(
+    err: Stderr,
+    script: &mut impl Read,
+    name: &[u8],
+    was: At,
+    portion: &mut [u8],
+    line: &mut [u8],
+) -> At {
     let mut at = was;
     at.length = 0;
     at.whole = false;
     at = take(at, portion, line);
-    let mut turns = u64::MAX;
-    while turns > 0 && !at.whole {
-        at = read(fd, name, at, portion);
+    for _ in 0..u64::MAX {
+        if at.whole {
+            break;
+        }
+        at = read(err, script, name, at, portion);
         at = take(at, portion, line);
-        turns -= 1;
     }
     at
 }

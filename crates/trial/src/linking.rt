@@ -9,6 +9,7 @@ use crate::wires::{links_of, write_codes, write_links};
 use crate::words::{after, byte, part, place_among};
 use links::{Answer, Links, Outcome};
 use links_sending::Sent;
+use system::Output;
 
 // What words ask of the links.
 #[derive(Clone, Copy)]
@@ -67,11 +68,11 @@ fn value_of(words: &[u8], known: &mut bool) -> Wish {
 
 // Answers a command of this family, from its second word on and up to the end of the line: the links after it. Words
 // that are no command leave them as they are, and are not `known`.
-pub(crate) fn obey(words: &[u8], now: Links, known: &mut bool) -> Links {
+pub(crate) fn obey(out: &mut Output, words: &[u8], now: Links, known: &mut bool) -> Links {
     let wish = wish_of(words, known);
     let done = granted(wish, words, now, known);
     if *known {
-        write_outcome(done);
+        write_outcome(out, done);
         return done.next;
     }
     now
@@ -99,27 +100,27 @@ fn granted(wish: Wish, words: &[u8], now: Links, known: &mut bool) -> Outcome {
 }
 
 // The number that a call on the links or on a board answered.
-pub(crate) fn write_answer(answer: Answer) {
+pub(crate) fn write_answer(out: &mut Output, answer: Answer) {
     let number = match answer {
         Answer::Taken => 0,
         Answer::TooLarge => 2,
         Answer::Broken => 5,
     };
-    io::print_decimal(1, number);
+    out.print_decimal(number);
 }
 
 // What each receiver gets.
-fn write_sent(sent: Sent) {
-    write_codes(0, sent.screen);
-    write_codes(1, sent.keyboard);
-    write_codes(2, sent.modem);
-    write_codes(3, sent.socket);
+fn write_sent(out: &mut Output, sent: Sent) {
+    write_codes(out, 0, sent.screen);
+    write_codes(out, 1, sent.keyboard);
+    write_codes(out, 2, sent.modem);
+    write_codes(out, 3, sent.socket);
 }
 
 // All that a call handed back.
-fn write_outcome(done: Outcome) {
+fn write_outcome(out: &mut Output, done: Outcome) {
     let answer = done.answer;
-    write_answer(answer);
-    write_sent(done.sent);
-    write_links(done.next);
+    write_answer(out, answer);
+    write_sent(out, done.sent);
+    write_links(out, done.next);
 }

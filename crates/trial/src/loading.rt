@@ -14,13 +14,11 @@ fn are_cells(word: &[u8]) -> bool {
     if word.len() != 7000 {
         return false;
     }
-    let mut i = 0;
-    while i < word.len() {
+    for i in 0..word.len() {
         let d = digit(word, i);
         if d > 15 || i % 7 > 4 && d > 1 {
             return false;
         }
-        i += 1;
     }
     true
 }
@@ -43,15 +41,13 @@ fn cell_of(seven: &[u8]) -> Cell {
 fn cells_of(word: &[u8]) -> [Cell; 1000] {
     let blank = screen_cells::blank();
     let mut cells = [blank; 1000];
-    let mut i = 0;
-    while i < 1000 {
+    for i in 0..1000 {
         let at = 7 * i;
         if at > word.len() {
             return cells;
         }
         let cell = cell_of(&word[at..]);
         cells[i] = cell;
-        i += 1;
     }
     cells
 }

@@ -16,6 +16,7 @@
 // piecing.rt    its command for a piece of the line
 // telling.rt    what the board hands back as words
 #![tactic(auto)]
+
 mod blocks;
 mod boarding;
 mod lines;
@@ -36,6 +37,11 @@ use line_receiver::Receiver;
 use lines::{At, LONGEST};
 use links::Links;
 use screen_page::Screen;
+use std::env::{Env, FillError};
+use std::fs;
+use std::fs::Files;
+use std::io::{Read, Stderr};
+use system::{Output, arg, fail, path};
 use words::{NONE, after, part, place_among};
 
 // Whether a line gets an answer: an empty one and a remark do not, however long.
@@ -55,23 +61,26 @@ fn family(line: &[u8], length: usize) -> usize {
 }
 
 // Ends the answer to a line, which is `? NUMBER` where it is no command; false where it could not be written.
-fn end(known: bool, number: u64) -> bool {
+fn end(out: &mut Output, mut err: Stderr, known: bool, number: u64) -> bool {
     if !known {
-        io::write_all(1, b"? ");
-        io::print_decimal(1, number);
+        out.write_all(b"? ");
+        out.print_decimal(number);
     }
-    if io::write_all(1, b"\n") {
-        return true;
+    out.write_all(b"\n");
+    match out.fault() {
+        Ok(()) => true,
+        Err(fault) => {
+            let _ = fail(&mut err, b"standard output", fault);
+            false
+        }
     }
-    os::fail(b"standard output");
-    false
 }
 
 // Runs one script to its end, or until an answer cannot be written. `name` is for error lines. The receiver, the
 // screen, the links and the board are held here alone, and handed on for their own commands; no script has more lines
 // than a u64 counts.
-fn run(fd: i32, name: &[u8]) {
-    let mut portion = io::large_buffer();
+fn run(out: &mut Output, err: Stderr, script: &mut impl Read, name: &[u8]) {
+    let mut portion = [0u8; 65536];
     let mut line = [0u8; LONGEST + 1];
     let mut receiver = Receiver::new();
     let mut screen = Screen::fresh();
@@ -84,58 +93,71 @@ fn run(fd: i32, name: &[u8]) {
         whole: false,
         ended: false,
     };
-    let mut number = 1;
-    while number < u64::MAX && !at.ended {
-        at = lines::cut(fd, name, at, &mut portion, &mut line);
+    for number in 1..u64::MAX {
+        if at.ended {
+            break;
+        }
+        at = lines::cut(err, script, name, at, &mut portion, &mut line);
         if is_answered(&line, at.length) {
             let command = first(&line, at.length);
             let words = after(command, b' ', 1);
             let mut known = true;
             match family(command, at.length) {
-                0 => known = blocks::make(words),
-                1 => known = blocks::judge(words),
-                2 => receiver = receiving::obey(words, receiver, &mut known),
-                3 => screen = screening::obey(words, screen, &mut known),
-                4 => links = linking::obey(words, links, &mut known),
-                5 => board = boarding::obey(words, board, &mut known),
+                0 => known = blocks::make(out, words),
+                1 => known = blocks::judge(out, words),
+                2 => receiver = receiving::obey(out, words, receiver, &mut known),
+                3 => screen = screening::obey(out, words, screen, &mut known),
+                4 => links = linking::obey(out, words, links, &mut known),
+                5 => board = boarding::obey(out, words, board, &mut known),
                 _ => known = false,
             }
-            if !end(known, number) {
+            if !end(out, err, known, number) {
                 at.ended = true;
             }
         }
-        number += 1;
     }
 }
 
 // Runs the script that argument `i` names. One that cannot be opened gets a line on standard error.
-fn run_file(i: usize) {
-    let mut path = io::buffer();
-    let length = os::arg(i, &mut path);
-    if os::errno() != 0 {
-        os::fail(b"the name of a script");
-        return;
-    }
-    let name = &path[0..length];
-    let fd = os::open_read(name);
-    if fd < 0 {
-        os::fail(name);
-    } else {
-        run(fd, name);
-        libc::close(fd);
+fn run_file(out: &mut Output, mut err: Stderr, rt: &(impl Env + Files), i: usize) {
+    let mut word = [0u8; 4096];
+    let length = match arg(rt, i, &mut word) {
+        Ok(length) => length,
+        Err(fault) => {
+            let _ = fail(&mut err, b"the name of a script", fault);
+            return;
+        }
+    };
+    let name = &word[0..length];
+    match path(name).and_then(|path| fs::open(rt, path)) {
+        Ok(mut script) => run(out, err, &mut script, name),
+        Err(fault) => {
+            let _ = fail(&mut err, name, fault);
+        }
     }
 }
 
+// How many arguments there are, the program's own name among them.
+fn argument_count(rt: &impl Env) -> usize {
+    let mut word = [0u8; 1];
+    for i in 0..usize::MAX {
+        if let Err(FillError::NotPresent) = rt.arg(i, &mut word) {
+            return i;
+        }
+    }
+    usize::MAX
+}
+
 // Runs the scripts that the arguments name, or standard input where there are none.
-fn main() {
-    let count = os::arg_count();
+fn main(rt: HostRuntime) {
+    let err = rt.stderr();
+    let mut out = Output::new(rt.stdout());
+    let count = argument_count(&rt);
     if count < 2 {
-        run(libc::STDIN_FILENO, b"standard input");
+        run(&mut out, err, &mut rt.stdin(), b"standard input");
         return;
     }
-    let mut i = 1;
-    while i < count {
-        run_file(i);
-        i += 1;
+    for i in 1..count {
+        run_file(&mut out, err, &rt, i);
     }
 }

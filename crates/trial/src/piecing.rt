@@ -5,6 +5,7 @@ use crate::words::{LARGEST, after, bytes as bytes_of, decimal, part, write_count
 use board::Board;
 use board_pieces::Answer;
 use lent::first;
+use system::Output;
 
 // How many bytes a piece has, and how many each output has room for.
 #[derive(Clone, Copy)]
@@ -37,22 +38,23 @@ fn sizes_of(words: &[u8], piece: &mut [u8], known: &mut bool) -> Sizes {
 
 // Answers the command, from its bytes on: the board after it. Words that are no command leave it as it is, and are not
 // `known`.
-pub(crate) fn lines(words: &[u8], now: Board, known: &mut bool) -> Board {
+pub(crate) fn lines(out: &mut Output, words: &[u8], now: Board, known: &mut bool) -> Board {
     let mut piece = [0u8; LARGEST];
     let sizes = sizes_of(words, &mut piece, known);
     if *known {
-        return lend(now, first(&piece, sizes.piece), sizes);
+        return lend(out, now, first(&piece, sizes.piece), sizes);
     }
     now
 }
 
 // A piece and its outputs. Their bytes are ee before the call, so that untouched ones show.
-fn lend(now: Board, piece: &[u8], sizes: Sizes) -> Board {
+fn lend(out: &mut Output, now: Board, piece: &[u8], sizes: Sizes) -> Board {
     let mut keyboard = [0xeeu8; LARGEST];
     let mut modem = [0xeeu8; LARGEST];
     let mut socket = [0xeeu8; LARGEST];
     let mut requests = [0xeeu8; LARGEST];
     hear(
+        out,
         now,
         piece,
         first_mut(&mut keyboard, sizes.keyboard),
@@ -64,6 +66,7 @@ fn lend(now: Board, piece: &[u8], sizes: Sizes) -> Board {
 
 // The call, and what it handed back.
 fn hear(
+    out: &mut Output,
     now: Board,
     piece: &[u8],
     keyboard: &mut [u8],
@@ -74,36 +77,36 @@ fn hear(
     let done = board_pieces::lines(now, piece, keyboard, modem, socket, requests);
     let said = done.answer;
     let next = done.next;
-    write_answer(said);
-    write_outputs(keyboard, modem, socket, requests);
-    write_used(done.keyboard, done.modem, done.socket, done.requests);
-    write_state(next);
+    write_answer(out, said);
+    write_outputs(out, keyboard, modem, socket, requests);
+    write_used(out, done.keyboard, done.modem, done.socket, done.requests);
+    write_state(out, next);
     next
 }
 
 // The number that the call answered.
-fn write_answer(answer: Answer) {
+fn write_answer(out: &mut Output, answer: Answer) {
     let number = match answer {
         Answer::Taken => 0,
         Answer::NoRoom => 4,
         Answer::Broken => 5,
     };
-    io::print_decimal(1, number);
+    out.print_decimal(number);
 }
 
 // All four outputs after a piece.
-fn write_outputs(keyboard: &[u8], modem: &[u8], socket: &[u8], requests: &[u8]) {
-    write_output(b" keyboard", keyboard);
-    write_output(b" modem", modem);
-    write_output(b" socket", socket);
-    write_output(b" request", requests);
+fn write_outputs(out: &mut Output, keyboard: &[u8], modem: &[u8], socket: &[u8], requests: &[u8]) {
+    write_output(out, b" keyboard", keyboard);
+    write_output(out, b" modem", modem);
+    write_output(out, b" socket", socket);
+    write_output(out, b" request", requests);
 }
 
 // How many bytes the piece wrote to each.
-fn write_used(keyboard: usize, modem: usize, socket: usize, requests: usize) {
-    io::write_all(1, b" used");
-    write_count(b'=', keyboard);
-    write_count(b',', modem);
-    write_count(b',', socket);
-    write_count(b',', requests);
+fn write_used(out: &mut Output, keyboard: usize, modem: usize, socket: usize, requests: usize) {
+    out.write_all(b" used");
+    write_count(out, b'=', keyboard);
+    write_count(out, b',', modem);
+    write_count(out, b',', socket);
+    write_count(out, b',', requests);
 }

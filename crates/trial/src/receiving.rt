@@ -7,33 +7,34 @@ use crate::words::{
 };
 use lent::first;
 use line_receiver::{Phase, Receiver, Stepped};
+use system::Output;
 
 // Answers a command of this family, from its second word on and up to the end of the line: the receiver after it. Words
 // that are no command leave it as it is, and are not `known`.
-pub(crate) fn obey(words: &[u8], now: Receiver, known: &mut bool) -> Receiver {
+pub(crate) fn obey(out: &mut Output, words: &[u8], now: Receiver, known: &mut bool) -> Receiver {
     match place_among(words, b"new on off ask") {
-        0 => put(Receiver::new()),
-        1 => answer(now.switch_on()),
-        2 => answer(now.switch_off()),
-        3 => answer(now.ask_again()),
-        _ => obey_words(words, now, known),
+        0 => put(out, Receiver::new()),
+        1 => answer(out, now.switch_on()),
+        2 => answer(out, now.switch_off()),
+        3 => answer(out, now.ask_again()),
+        _ => obey_words(out, words, now, known),
     }
 }
 
 // The commands with arguments.
-fn obey_words(words: &[u8], now: Receiver, known: &mut bool) -> Receiver {
+fn obey_words(out: &mut Output, words: &[u8], now: Receiver, known: &mut bool) -> Receiver {
     let given = after(words, b' ', 1);
     match place_among(part(words, b' ', 0), b"byte set") {
         0 => {
             let value = byte(given, known);
             if *known {
-                return answer(now.step(value));
+                return answer(out, now.step(value));
             }
         }
         1 => {
             let state = state_of(given, known);
             if *known {
-                return put(state);
+                return put(out, state);
             }
         }
         _ => {
@@ -65,7 +66,7 @@ pub(crate) fn state_of(words: &[u8], good: &mut bool) -> Receiver {
 
 // The state as answers have it, after its name there. A broken one may count more bytes than there are; then all of
 // them are shown.
-pub(crate) fn write_state(name: &[u8], r: Receiver) {
+pub(crate) fn write_state(out: &mut Output, name: &[u8], r: Receiver) {
     let phase = r.phase;
     let held = r.held;
     let mut number = 0;
@@ -80,31 +81,31 @@ pub(crate) fn write_state(name: &[u8], r: Receiver) {
             seen = codes;
         }
     }
-    io::write_all(1, name);
-    write_number(b'=', number);
-    write_number(b',', r.number);
-    write_count(b',', r.count);
-    write_number(b',', seen);
-    write_bytes(b',', first(&held, r.count));
+    out.write_all(name);
+    write_number(out, b'=', number);
+    write_number(out, b',', r.number);
+    write_count(out, b',', r.count);
+    write_number(out, b',', seen);
+    write_bytes(out, b',', first(&held, r.count));
 }
 
 // What a call handed back.
-fn answer(done: Stepped) -> Receiver {
+fn answer(out: &mut Output, done: Stepped) -> Receiver {
     let next = done.next;
     let values = done.values;
     let request = done.request;
-    io::print_decimal(1, done.answer as u64);
-    io::write_all(1, b" passed");
-    write_bytes(b'=', first(&values, done.passed));
-    io::write_all(1, b" modem");
-    write_bytes(b'=', first(&request, done.asked));
-    write_state(b" state", next);
+    out.print_decimal(done.answer as u64);
+    out.write_all(b" passed");
+    write_bytes(out, b'=', first(&values, done.passed));
+    out.write_all(b" modem");
+    write_bytes(out, b'=', first(&request, done.asked));
+    write_state(out, b" state", next);
     next
 }
 
 // A state that no call made: nothing goes out.
-fn put(state: Receiver) -> Receiver {
-    io::write_all(1, b"0 passed=- modem=-");
-    write_state(b" state", state);
+fn put(out: &mut Output, state: Receiver) -> Receiver {
+    out.write_all(b"0 passed=- modem=-");
+    write_state(out, b" state", state);
     state
 }

@@ -9,6 +9,7 @@ use crate::words::{after, byte, bytes as bytes_of, field, number, part, place_am
 use lent::first;
 use screen::Answer;
 use screen_page::{Read, Screen};
+use system::Output;
 
 // As many values as a run may have.
 const LONGEST_RUN: usize = 4000;
@@ -56,45 +57,45 @@ fn wish_of(words: &[u8], known: &mut bool) -> Wish {
 
 // Answers a command of this family, from its second word on and up to the end of the line: the screen after it. Words
 // that are no command leave it as it is, and are not `known`.
-pub(crate) fn obey(words: &[u8], now: Screen, known: &mut bool) -> Screen {
+pub(crate) fn obey(out: &mut Output, words: &[u8], now: Screen, known: &mut bool) -> Screen {
     let wish = wish_of(words, known);
     match wish {
         Wish::Nothing => now,
-        Wish::Fresh => put(Screen::fresh()),
+        Wish::Fresh => put(out, Screen::fresh()),
         Wish::Dump => {
             let cells = now.cells;
-            write_cells(cells);
+            write_cells(out, cells);
             now
         }
-        Wish::Byte(value) => take(now, value),
-        Wish::Run => take_all(after(words, b' ', 1), now, known),
+        Wish::Byte(value) => take(out, now, value),
+        Wish::Run => take_all(out, after(words, b' ', 1), now, known),
         Wish::Cell { row, column } => {
-            write_read(now.cell(row, column));
+            write_read(out, now.cell(row, column));
             now
         }
-        Wish::Load => load(after(words, b' ', 1), now, known),
+        Wish::Load => load(out, after(words, b' ', 1), now, known),
     }
 }
 
 // A state that no call made.
-fn put(state: Screen) -> Screen {
-    io::write_all(1, b"0");
-    write_pen(state.pen);
+fn put(out: &mut Output, state: Screen) -> Screen {
+    out.write_all(b"0");
+    write_pen(out, state.pen);
     state
 }
 
 // `byte HH`.
-fn take(now: Screen, value: u8) -> Screen {
+fn take(out: &mut Output, now: Screen, value: u8) -> Screen {
     let done = screen::step(now, value);
     let answer = done.answer;
     let next = done.screen;
-    write_answer(answer);
-    write_pen(next.pen);
+    write_answer(out, answer);
+    write_pen(out, next.pen);
     next
 }
 
 // `run VALUES`, from its values on.
-fn take_all(word: &[u8], now: Screen, known: &mut bool) -> Screen {
+fn take_all(out: &mut Output, word: &[u8], now: Screen, known: &mut bool) -> Screen {
     let mut values = [0u8; LONGEST_RUN];
     let n = bytes_of(word, &mut values);
     if n > LONGEST_RUN {
@@ -104,54 +105,54 @@ fn take_all(word: &[u8], now: Screen, known: &mut bool) -> Screen {
     let done = screen::run(now, first(&values, n));
     let answer = done.answer;
     let next = done.screen;
-    write_answer(answer);
-    write_place(answer);
-    write_pen(next.pen);
+    write_answer(out, answer);
+    write_place(out, answer);
+    write_pen(out, next.pen);
     next
 }
 
 // `load CELLS CUR ATTR LAST KEPT PEND`, from its cells on.
-fn load(words: &[u8], now: Screen, known: &mut bool) -> Screen {
+fn load(out: &mut Output, words: &[u8], now: Screen, known: &mut bool) -> Screen {
     let state = screen_of(words, known);
     if *known {
-        return put(state);
+        return put(out, state);
     }
     now
 }
 
 // The number that a call answered.
-fn write_answer(answer: Answer) {
+fn write_answer(out: &mut Output, answer: Answer) {
     let number = match answer {
         Answer::Taken => 0,
         Answer::TooLarge(_) => 2,
         Answer::Broken => 5,
     };
-    io::print_decimal(1, number);
+    out.print_decimal(number);
 }
 
 // For a run, the place of a value too large.
-fn write_place(answer: Answer) {
+fn write_place(out: &mut Output, answer: Answer) {
     if let Answer::TooLarge(place) = answer {
-        io::write_all(1, b" ");
-        io::print_decimal(1, place as u64);
+        out.write_all(b" ");
+        out.print_decimal(place as u64);
     } else {
-        io::write_all(1, b" -");
+        out.write_all(b" -");
     }
 }
 
 // What reading a cell gave.
-fn write_read(found: Read) {
+fn write_read(out: &mut Output, found: Read) {
     match found {
         Read::There(cell) => {
             let text = spelled(cell);
-            io::write_all(1, b"0 ");
-            io::write_all(1, &text);
+            out.write_all(b"0 ");
+            out.write_all(&text);
         }
         Read::Off => {
-            io::write_all(1, b"0 off");
+            out.write_all(b"0 off");
         }
         Read::Broken => {
-            io::write_all(1, b"5 -");
+            out.write_all(b"5 -");
         }
     }
 }

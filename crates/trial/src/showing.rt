@@ -5,6 +5,7 @@ use screen_attributes::{Attributes, Waiting};
 use screen_cells::Cell;
 use screen_pen::{Last, Pen};
 use screen_sequences::Sequence;
+use system::Output;
 
 // The names of unfinished sequences, but for the one that has a code.
 pub(crate) const SEQUENCES: [u8; 29] = *b"- esc esc2 csi us rep ss2 sep";
@@ -23,51 +24,49 @@ pub(crate) fn spelled(cell: Cell) -> [u8; 7] {
 }
 
 // All the cells, with nothing between them.
-pub(crate) fn write_cells(cells: [Cell; 1000]) {
+pub(crate) fn write_cells(out: &mut Output, cells: [Cell; 1000]) {
     let mut text = [0u8; 7000];
     let mut at = 0;
-    let mut i = 0;
-    while i < 1000 {
-        let seven = spelled(cells[i]);
+    for cell in cells {
+        let seven = spelled(cell);
         at = add(&seven, &mut text, at);
-        i += 1;
     }
-    io::write_all(1, &text);
+    out.write_all(&text);
 }
 
 // Attributes as numbers, with this mark before the first.
-fn write_attributes(mark: u8, a: Attributes) {
-    write_number(mark, a.set);
-    write_number(b',', a.ink);
+fn write_attributes(out: &mut Output, mark: u8, a: Attributes) {
+    write_number(out, mark, a.set);
+    write_number(out, b',', a.ink);
     let zone = a.zone;
     let waiting = zone.waiting;
-    write_number(b',', zone.ground);
+    write_number(out, b',', zone.ground);
     match waiting {
         Waiting::Nothing => {
-            io::write_all(1, b",-");
+            out.write_all(b",-");
         }
         Waiting::Ground(colour) => {
-            write_number(b',', colour);
+            write_number(out, b',', colour);
         }
     }
-    write_number(b',', a.flash as u8);
-    write_number(b',', a.inverse as u8);
+    write_number(out, b',', a.flash as u8);
+    write_number(out, b',', a.inverse as u8);
 }
 
-fn write_last(last: Last) {
-    io::write_all(1, b" last=");
+fn write_last(out: &mut Output, last: Last) {
+    out.write_all(b" last=");
     match last {
         Last::Never => {
-            io::write_all(1, b"-");
+            out.write_all(b"-");
         }
         Last::Was(character) => {
-            io::print_decimal(1, character.set as u64);
-            write_bytes(b':', &[character.code]);
+            out.print_decimal(character.set as u64);
+            write_bytes(out, b':', &[character.code]);
         }
     }
 }
 
-fn write_sequence(sequence: Sequence) {
+fn write_sequence(out: &mut Output, sequence: Sequence) {
     let place = match sequence {
         Sequence::Free => 0,
         Sequence::Escape => 1,
@@ -78,29 +77,29 @@ fn write_sequence(sequence: Sequence) {
         Sequence::Single => 6,
         Sequence::Separator => 7,
     };
-    io::write_all(1, b" pend=");
-    io::write_all(1, part(&SEQUENCES, b' ', place));
+    out.write_all(b" pend=");
+    out.write_all(part(&SEQUENCES, b' ', place));
     if let Sequence::Row(code) = sequence {
-        write_bytes(b':', &[code]);
+        write_bytes(out, b':', &[code]);
     }
 }
 
 // All of a state but its cells.
-pub(crate) fn write_pen(pen: Pen) {
+pub(crate) fn write_pen(out: &mut Output, pen: Pen) {
     let here = pen.here;
     let kept = pen.kept;
     let last = pen.last;
     let sequence = pen.sequence;
-    io::write_all(1, b" cur");
-    write_number(b'=', here.place.row);
-    write_number(b',', here.place.column);
-    write_number(b',', pen.shown as u8);
-    io::write_all(1, b" attr");
-    write_attributes(b'=', here.attributes);
-    write_last(last);
-    io::write_all(1, b" kept");
-    write_number(b'=', kept.place.row);
-    write_number(b',', kept.place.column);
-    write_attributes(b',', kept.attributes);
-    write_sequence(sequence);
+    out.write_all(b" cur");
+    write_number(out, b'=', here.place.row);
+    write_number(out, b',', here.place.column);
+    write_number(out, b',', pen.shown as u8);
+    out.write_all(b" attr");
+    write_attributes(out, b'=', here.attributes);
+    write_last(out, last);
+    out.write_all(b" kept");
+    write_number(out, b'=', kept.place.row);
+    write_number(out, b',', kept.place.column);
+    write_attributes(out, b',', kept.attributes);
+    write_sequence(out, sequence);
 }

@@ -11,57 +11,58 @@ use crate::words::write_bytes;
 use board::{Board, Outcome};
 use board_feeding::Outlet;
 use lent::first;
+use system::Output;
 
 // `dump`.
-pub(crate) fn dump(now: Board) -> Board {
+pub(crate) fn dump(out: &mut Output, now: Board) -> Board {
     let screen = now.screen;
     let cells = screen.cells;
-    write_cells(cells);
+    write_cells(out, cells);
     now
 }
 
 // A state that no call made: nothing is handed out.
-pub(crate) fn put(state: Board) -> Board {
-    io::write_all(1, b"0 keyboard=- modem=- socket=- request=-");
-    write_state(state);
+pub(crate) fn put(out: &mut Output, state: Board) -> Board {
+    out.write_all(b"0 keyboard=- modem=- socket=- request=-");
+    write_state(out, state);
     state
 }
 
 // What a call handed back.
-pub(crate) fn answer(done: Outcome) -> Board {
+pub(crate) fn answer(out: &mut Output, done: Outcome) -> Board {
     let said = done.answer;
     let request = done.request;
     let next = done.next;
-    write_answer(said);
-    write_outlet(b" keyboard", done.keyboard);
-    write_outlet(b" modem", done.modem);
-    write_outlet(b" socket", done.socket);
-    write_request(request, done.asked);
-    write_state(next);
+    write_answer(out, said);
+    write_outlet(out, b" keyboard", done.keyboard);
+    write_outlet(out, b" modem", done.modem);
+    write_outlet(out, b" socket", done.socket);
+    write_request(out, request, done.asked);
+    write_state(out, next);
     next
 }
 
 // Writes a name, and bytes after it.
-pub(crate) fn write_output(name: &[u8], bytes: &[u8]) {
-    io::write_all(1, name);
-    write_bytes(b'=', bytes);
+pub(crate) fn write_output(out: &mut Output, name: &[u8], bytes: &[u8]) {
+    out.write_all(name);
+    write_bytes(out, b'=', bytes);
 }
 
 // The bytes that a single call hands out.
-fn write_outlet(name: &[u8], outlet: Outlet) {
+fn write_outlet(out: &mut Output, name: &[u8], outlet: Outlet) {
     let codes = outlet.codes;
-    write_output(name, first(&codes, outlet.count));
+    write_output(out, name, first(&codes, outlet.count));
 }
 
 // The receiver's request to the modem.
-fn write_request(request: [u8; 2], asked: usize) {
-    write_output(b" request", first(&request, asked));
+fn write_request(out: &mut Output, request: [u8; 2], asked: usize) {
+    write_output(out, b" request", first(&request, asked));
 }
 
 // All of a state but the cells.
-pub(crate) fn write_state(state: Board) {
+pub(crate) fn write_state(out: &mut Output, state: Board) {
     let screen = state.screen;
-    write_receiver(b" rx", state.receiver);
-    write_links(state.links);
-    write_pen(screen.pen);
+    write_receiver(out, b" rx", state.receiver);
+    write_links(out, state.links);
+    write_pen(out, screen.pen);
 }

@@ -6,6 +6,7 @@ use links::Links;
 use links_hearing::Unfinished;
 use links_sending::Bytes;
 use links_wiring::{Row, Table};
+use system::Output;
 
 // Whether a 1 stands at a place; there is to be a 0 or a 1.
 fn mark_of(word: &[u8], at: usize, good: &mut bool) -> bool {
@@ -78,17 +79,14 @@ pub(crate) fn links_of(words: &[u8], good: &mut bool) -> Links {
 }
 
 // Writes the name at a place of an answer, and these bytes after it.
-pub(crate) fn write_codes(place: usize, bytes: Bytes) {
+pub(crate) fn write_codes(out: &mut Output, place: usize, bytes: Bytes) {
     let codes = bytes.codes;
-    io::write_all(
-        1,
-        part(
-            b" screen, keyboard, modem, socket, pend_modem, pend_socket",
-            b',',
-            place,
-        ),
-    );
-    write_bytes(b'=', first(&codes, bytes.count));
+    out.write_all(part(
+        b" screen, keyboard, modem, socket, pend_modem, pend_socket",
+        b',',
+        place,
+    ));
+    write_bytes(out, b'=', first(&codes, bytes.count));
 }
 
 // The codes of an unfinished sequence so far.
@@ -118,29 +116,29 @@ fn codes_of(unfinished: Unfinished) -> Bytes {
 }
 
 // One sender's four digits.
-fn write_row(row: Row) {
+fn write_row(out: &mut Output, row: Row) {
     let four = [
         letter(row.screen as u8),
         letter(row.keyboard as u8),
         letter(row.modem as u8),
         letter(row.socket as u8),
     ];
-    io::write_all(1, &four);
+    out.write_all(&four);
 }
 
-fn write_table(table: Table) {
-    io::write_all(1, b" table=");
-    write_row(table.screen);
-    write_row(table.keyboard);
-    write_row(table.modem);
-    write_row(table.socket);
+fn write_table(out: &mut Output, table: Table) {
+    out.write_all(b" table=");
+    write_row(out, table.screen);
+    write_row(out, table.keyboard);
+    write_row(out, table.modem);
+    write_row(out, table.socket);
 }
 
 // All of a state.
-pub(crate) fn write_links(state: Links) {
+pub(crate) fn write_links(out: &mut Output, state: Links) {
     let modem = state.modem;
     let socket = state.socket;
-    write_table(state.table);
-    write_codes(4, codes_of(modem));
-    write_codes(5, codes_of(socket));
+    write_table(out, state.table);
+    write_codes(out, 4, codes_of(modem));
+    write_codes(out, 5, codes_of(socket));
 }

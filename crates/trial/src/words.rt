@@ -2,8 +2,10 @@
 //
 // Whoever has a word read lends `good`, which a word that names nothing of its kind makes false. So several words are
 // read one after the other, and the question is put once.
-use bytes::scan::find;
+ghost use Rattle.std.specs.Prelude.{◌≤◌, length};
+
 use lent::{add, first, is};
+use system::Output;
 
 // As many bytes as a word of a block command may name.
 pub(crate) const MOST: usize = 64;
@@ -21,38 +23,43 @@ pub(crate) fn is_dash(word: &[u8]) -> bool {
     is(word, b"-")
 }
 
+// Where a mark stands first, or how long the text is where it does not.
+pub(crate) fn find(text: &[u8], mark: u8) -> usize
+    ensures { result ≤ length text.now }
+{
+    for i in 0..text.len() {
+        if text[i] == mark {
+            return i;
+        }
+    }
+    text.len()
+}
+
 // What stands after so many marks; nothing where there are fewer.
 pub(crate) fn after(text: &[u8], mark: u8, marks: usize) -> &[u8] {
-    let n = text.len();
-    let mut at = 0;
-    let mut i = 0;
-    while i < marks {
-        let e = find(text, at, n, mark);
-        if e == n {
-            return &text[n..];
+    let mut rest = text;
+    for _ in 0..marks {
+        let e = find(rest, mark);
+        if e == rest.len() {
+            return &rest[e..];
         }
-        at = e + 1;
-        i += 1;
+        rest = &rest[e + 1..];
     }
-    &text[at..]
+    rest
 }
 
 // The part after so many marks, up to the next.
 pub(crate) fn part(text: &[u8], mark: u8, marks: usize) -> &[u8] {
     let rest = after(text, mark, marks);
-    let n = rest.len();
-    let e = find(rest, 0, n, mark);
-    first(rest, e)
+    first(rest, find(rest, mark))
 }
 
 // How many words stand before a name among names; as many as there are, or more, where it is none of them.
 pub(crate) fn place_among(name: &[u8], names: &[u8]) -> usize {
-    let mut i = 0;
-    while i < names.len() {
+    for i in 0..names.len() {
         if is(name, part(names, b' ', i)) {
             return i;
         }
-        i += 1;
     }
     NONE
 }
@@ -108,8 +115,7 @@ pub(crate) fn decimal(word: &[u8]) -> usize {
         return NONE;
     }
     let mut number = 0;
-    let mut i = 0;
-    while i < word.len() {
+    for i in 0..word.len() {
         let d = digit(word, i);
         if d > 9 {
             return NONE;
@@ -118,7 +124,6 @@ pub(crate) fn decimal(word: &[u8]) -> usize {
         if number > LARGEST {
             return NONE;
         }
-        i += 1;
     }
     number
 }
@@ -152,29 +157,27 @@ fn pair(byte: u8) -> [u8; 2] {
 }
 
 // Writes a mark, and bytes as a word after it, `-` for none; there are at most LARGEST of them.
-pub(crate) fn write_bytes(mark: u8, bytes: &[u8]) {
+pub(crate) fn write_bytes(out: &mut Output, mark: u8, bytes: &[u8]) {
     let mut text = [mark; 1 + 2 * LARGEST];
     text[1] = b'-';
     let mut at = 1;
-    let mut i = 0;
-    while i < bytes.len() {
-        let two = pair(bytes[i]);
+    for byte in bytes {
+        let two = pair(*byte);
         at = add(&two, &mut text, at);
-        i += 1;
     }
-    if i == 0 {
+    if bytes.len() == 0 {
         at = 2;
     }
-    io::write_all(1, first(&text, at));
+    out.write_all(first(&text, at));
 }
 
 // Writes a mark and a count after it.
-pub(crate) fn write_count(mark: u8, n: usize) {
-    io::write_all(1, &[mark]);
-    io::print_decimal(1, n as u64);
+pub(crate) fn write_count(out: &mut Output, mark: u8, n: usize) {
+    out.write_all(&[mark]);
+    out.print_decimal(n as u64);
 }
 
 // The same for a number that is a byte.
-pub(crate) fn write_number(mark: u8, n: u8) {
-    write_count(mark, n as usize);
+pub(crate) fn write_number(out: &mut Output, mark: u8, n: u8) {
+    write_count(out, mark, n as usize);
 }
