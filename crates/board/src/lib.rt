@@ -9,6 +9,7 @@
 // specs/Boards says what a board is, specs/Calls what each call does to it, specs/Runs what a whole run is; proofs/
 // shows that each part goes its own way in every run.
 #![tactic(auto)]
+
 ghost use Rattle.std.specs.Prelude.{◌≡◌, take};
 ghost use Rattle.screen.specs.Calls.{ran};
 ghost use Rattle.board.specs.Boards.{fresh_board, in_range};

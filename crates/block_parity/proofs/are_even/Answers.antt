@@ -3,8 +3,7 @@
 use mathlib.Core.Path.{◌≡◌, refl, sym, ap, ap₂, ◌∙◌}
 use mathlib.Core.Bool.{Bool, true, false, ◌&&◌}
 use mathlib.Core.List.{List}
-use mathlib.Core.Logic.{⊎_elim}
-use Prim.Native.Nat.{ℕ, ◌+◌, ◌-◌, ◌≤◌, ◌<◌}
+use Prim.Native.Nat.{ℕ, ◌+◌, ◌<◌}
 use native.Mathlib.Omega.{arith}
 use lib.ListN.{length, drop}
 use Rattle.block_parity.specs.Parity.{all_even}
@@ -41,17 +40,17 @@ loop-i-preserved c =
     let h : c.loop-i.i < length b = omega arith in
     let rest : Bool = all_even (drop (c.loop-i.i + 1) b) in
     elim c.if-is_even.branch [
-      then-is_even w ↦ (
-      omega arith,
-      ap₂ ◌&&◌ w.all-is (sym (evens_turn b c.loop-i.i h (sym c.is_even.ensures ∙ w.if-is_even.true)))
-          ∙ c.loop-i.invariant.1,
-    )
+      | then-is_even w ↦ (
+        omega arith,
+        ap₂ ◌&&◌ w.all-is (sym (evens_turn b c.loop-i.i h (sym c.is_even.ensures ∙ w.if-is_even.true)))
+            ∙ c.loop-i.invariant.1,
+      )
       | else-is_even w ↦ (
-      omega arith,
-      ap (λ (t : Bool). t && rest) (w.all-is ∙ w.if-is_even.false) ∙ sym (never c.loop-i.all)
-          ∙ ap (λ (t : Bool). c.loop-i.all && t)
-          (sym (evens_turn b c.loop-i.i h (sym c.is_even.ensures ∙ w.if-is_even.false))) ∙ c.loop-i.invariant.1,
-    )
+        omega arith,
+        ap (λ (t : Bool). t && rest) (w.all-is ∙ w.if-is_even.false) ∙ sym (never c.loop-i.all)
+            ∙ ap (λ (t : Bool). c.loop-i.all && t)
+            (sym (evens_turn b c.loop-i.i h (sym c.is_even.ensures ∙ w.if-is_even.false))) ∙ c.loop-i.invariant.1,
+      )
     ]
 
 pub returns : goal.returns

@@ -1,14 +1,10 @@
 -- `block_parity::are_even` meets its contract: those seen and those that are left are all even where all are. Assumes
 -- nothing.
-use mathlib.Core.Path.{◌≡◌, refl, sym, ap, ap₂, ◌∙◌}
-use mathlib.Core.Bool.{Bool, true, false, ◌&&◌}
-use mathlib.Core.List.{List}
-use mathlib.Core.Logic.{⊎_elim}
-use Prim.Native.Nat.{ℕ, ◌+◌, ◌-◌, ◌≤◌, ◌<◌}
-use native.Mathlib.Omega.{arith}
+use mathlib.Core.Path.{◌≡◌}
+use mathlib.Core.Bool.{◌&&◌}
+use Prim.Native.Nat.{◌-◌, ◌≤◌}
 use lib.ListN.{length, drop}
 use Rattle.block_parity.specs.Parity.{all_even}
-use Rattle.block_parity.proofs.Parities.{evens_turn, evens_done}
 use Rattle.block_parity.proofs.are_even.Given as goal
 
 abbrev pub invariant-loop-i : goal.invariant-loop-i

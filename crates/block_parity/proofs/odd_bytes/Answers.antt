@@ -1,12 +1,9 @@
 -- `block_parity::odd_bytes` meets its contract: n and the odd bytes that are left are all of them. Assumes nothing.
-use mathlib.Core.Path.{◌≡◌, sym, ◌∙◌}
-use mathlib.Core.Logic.{⊎_elim}
+use mathlib.Core.Path.{sym, ◌∙◌}
 use mathlib.Core.List.{List}
-use Prim.Native.Nat.{ℕ, ◌+◌, ◌-◌, ◌≤◌, ◌<◌}
+use Prim.Native.Nat.{ℕ, ◌<◌}
 use native.Mathlib.Omega.{arith}
-use lib.ListN.{length, drop}
-use borrow.Author.Tests.{not-true, not-false}
-use Rattle.block_parity.specs.Parity.{odds}
+use lib.ListN.{length}
 use Rattle.block_parity.proofs.Parities.{odds_turn, odds_done}
 use Rattle.block_parity.proofs.odd_bytes.Goals as goal
 use Rattle.block_parity.proofs.odd_bytes.Goals.{then-not-is_even, else-not-is_even}
@@ -35,16 +32,16 @@ loop-i-preserved c =
     let r = c.is_even.result in
     let h : c.loop-i.i < length b = omega arith in
     elim c.if-not-is_even.branch [
-      then-not-is_even w ↦ (
-      omega arith,
-      omega arith,
-      omega (arith, w.n-is, odds_turn b c.loop-i.i h (sym c.is_even.ensures ∙ w.if-not-is_even.true)),
-    )
+      | then-not-is_even w ↦ (
+        omega arith,
+        omega arith,
+        omega (arith, w.n-is, odds_turn b c.loop-i.i h (sym c.is_even.ensures ∙ w.if-not-is_even.true)),
+      )
       | else-not-is_even w ↦ (
-      omega arith,
-      omega arith,
-      omega (arith, w.n-is, odds_turn b c.loop-i.i h (sym c.is_even.ensures ∙ w.if-not-is_even.false)),
-    )
+        omega arith,
+        omega arith,
+        omega (arith, w.n-is, odds_turn b c.loop-i.i h (sym c.is_even.ensures ∙ w.if-not-is_even.false)),
+      )
     ]
 
 pub returns : goal.returns

@@ -1,13 +1,8 @@
 -- `block_parity::odd_bytes` meets its contract: n and the odd bytes that are left are all of them. Assumes nothing.
-use mathlib.Core.Path.{◌≡◌, sym, ◌∙◌}
-use mathlib.Core.Logic.{⊎_elim}
-use mathlib.Core.List.{List}
-use Prim.Native.Nat.{ℕ, ◌+◌, ◌-◌, ◌≤◌, ◌<◌}
-use native.Mathlib.Omega.{arith}
+use mathlib.Core.Path.{◌≡◌}
+use Prim.Native.Nat.{◌+◌, ◌-◌, ◌≤◌}
 use lib.ListN.{length, drop}
-use borrow.Author.Tests.{not-true, not-false}
 use Rattle.block_parity.specs.Parity.{odds}
-use Rattle.block_parity.proofs.Parities.{odds_turn, odds_done}
 use Rattle.block_parity.proofs.odd_bytes.Given as goal
 
 abbrev pub invariant-loop-i : goal.invariant-loop-i

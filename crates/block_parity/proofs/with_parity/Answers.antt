@@ -2,7 +2,6 @@
 use mathlib.Core.Path.{sym, ◌∙◌}
 use Prim.Native.Nat.{◌%◌}
 use native.Mathlib.Nat.{mod-lt, zero-lt-suc}
-use borrow.Author.Rules.{rules}
 use Rattle.block_parity.proofs.Parities.{parity_is, parity_low}
 use Rattle.block_parity.proofs.with_parity.Goals as goal
 

@@ -1,5 +1,4 @@
 -- `links_replies::column` meets its contract. Assumes nothing.
-use borrow.Author.Rules.{rules}
 use Rattle.links_replies.proofs.column.Goals as goal
 
 pub returns-in-Screen : goal.returns-in-Screen

@@ -1,6 +1,5 @@
 -- `links_replies::reply` meets its contract. Assumes nothing.
 use Rattle.links_replies.specs.Replies.{status_of, reply_of}
-use borrow.Author.Rules.{rules}
 use Rattle.links_replies.proofs.reply.Goals as goal
 
 pub returns : goal.returns

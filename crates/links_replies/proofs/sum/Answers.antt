@@ -1,6 +1,5 @@
 -- `links_replies::sum` meets its contract. Assumes nothing.
 use native.Mathlib.Omega.{arith}
-use borrow.Author.Rules.{rules}
 use Rattle.links_replies.proofs.sum.Goals as goal
 
 pub overflow_add-result : goal.overflow_add-result

@@ -1,6 +1,5 @@
 -- `screen_addresses::locate` meets its contract. Assumes nothing.
 use borrow.Author.Tests.{le-leb, lt-leb}
-use borrow.Author.Rules.{rules}
 use Rattle.screen_addresses.proofs.locate.Goals as goal
 
 pub returns-then-row-lt64 : goal.returns-then-row-lt64

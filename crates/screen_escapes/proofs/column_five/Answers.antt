@@ -1,6 +1,5 @@
 -- `screen_escapes::column_five` meets its contract. Assumes nothing.
 use borrow.Author.Tests.{eq-eqb, le-ltb, lt-ltb, ne_eqb}
-use borrow.Author.Rules.{rules}
 use Rattle.screen_escapes.proofs.column_five.Goals as goal
 
 pub returns-then-row-lt8 : goal.returns-then-row-lt8

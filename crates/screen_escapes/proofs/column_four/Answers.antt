@@ -1,5 +1,5 @@
 -- `screen_escapes::column_four` meets its contract. Assumes nothing.
-use borrow.Author.Tests.{le-ltb, lt-ltb, ne_eqb}
+use borrow.Author.Tests.{lt-ltb}
 use Rattle.screen_escapes.proofs.column_four.Goals as goal
 
 pub returns-then-row-lt8 : goal.returns-then-row-lt8

@@ -1,6 +1,4 @@
 -- `screen_escapes::pair` meets its contract. Assumes nothing.
-use borrow.Author.Tests.{ne_eqb}
-use borrow.Author.Rules.{rules}
 use Rattle.screen_escapes.proofs.pair.Goals as goal
 
 pub returns-in-4 : goal.returns-in-4

@@ -1,5 +1,4 @@
 -- `screen_motion::down` meets its contract. Assumes nothing.
-use borrow.Author.Rules.{rules}
 use Rattle.screen_motion.proofs.down.Goals as goal
 
 pub returns : goal.returns

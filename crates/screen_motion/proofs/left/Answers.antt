@@ -1,6 +1,5 @@
 -- `screen_motion::left` meets its contract. Assumes nothing.
 use borrow.Author.Tests.{eq-eqb, le-ltb, lt-ltb, ne_eqb}
-use borrow.Author.Rules.{rules}
 use Rattle.screen_motion.proofs.left.Goals as goal
 
 pub returns-then-place-gt1 : goal.returns-then-place-gt1

@@ -1,6 +1,5 @@
 -- `screen_motion::right` meets its contract. Assumes nothing.
 use borrow.Author.Tests.{eq-eqb, le-ltb, lt-ltb, ne_eqb}
-use borrow.Author.Rules.{rules}
 use Rattle.screen_motion.proofs.right.Goals as goal
 
 pub returns-then-place-lt40 : goal.returns-then-place-lt40

@@ -1,6 +1,5 @@
 -- `screen_motion::row_above` meets its contract. Assumes nothing.
 use borrow.Author.Tests.{le-ltb, lt-ltb}
-use borrow.Author.Rules.{rules}
 use Rattle.screen_motion.proofs.row_above.Goals as goal
 
 pub returns-then-row-gt1 : goal.returns-then-row-gt1

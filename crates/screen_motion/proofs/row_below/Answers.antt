@@ -1,6 +1,5 @@
 -- `screen_motion::row_below` meets its contract. Assumes nothing.
 use borrow.Author.Tests.{le-ltb, lt-ltb}
-use borrow.Author.Rules.{rules}
 use Rattle.screen_motion.proofs.row_below.Goals as goal
 
 pub returns-then-row-lt24 : goal.returns-then-row-lt24

@@ -1,6 +1,5 @@
 -- `screen_motion::up` meets its contract. Assumes nothing.
 use borrow.Author.Tests.{le-ltb, lt-ltb}
-use borrow.Author.Rules.{rules}
 use Rattle.screen_motion.proofs.up.Goals as goal
 
 pub returns-then-place-gt0 : goal.returns-then-place-gt0

@@ -35,20 +35,18 @@ spend-spent-requires c = tt
 
 pub returns-in-Short : goal.returns-in-Short
 returns-in-Short c =
-    let at-loop : goal.At-loop-i =
-    c in
     let xs : List ℕ =
-    at-loop.before.before.args.piece.now in
+    c.args.piece.now in
     let i : ℕ =
-    at-loop.loop.i in
+    c.loop-i.i in
     let here : Front =
-    behind at-loop.before.before.args.start (take i xs) in
+    behind c.args.start (take i xs) in
     let heard_is : c.hear-heard.result ≡ heard_by here (get_or xs i 0) =
-    c.hear-heard.ensures.0 ∙ ap (λ (f : Front). heard_by f (get_or xs i 0)) at-loop.loop.invariant.1 in
-    let spent_is : left_over at-loop.loop.left (needs_of (heard_by here (get_or xs i 0))) ≡ c.spend-spent.result =
+    c.hear-heard.ensures.0 ∙ ap (λ (f : Front). heard_by f (get_or xs i 0)) c.loop-i.invariant.1 in
+    let spent_is : left_over c.loop-i.left (needs_of (heard_by here (get_or xs i 0))) ≡ c.spend-spent.result =
     sym (c.spend-spent.ensures
-    ∙ ap (left_over at-loop.loop.left) (c.needs.ensures ∙ ap needs_of heard_is)) in
-    let l = at-loop in
+    ∙ ap (left_over c.loop-i.left) (c.needs.ensures ∙ ap needs_of heard_is)) in
+    let l = c in
     let a = l.args in
     sym (lacking a.start xs i a.room l.loop-i.left (omega arith) l.loop-i.invariant.2
     (short l.loop-i.left (needs_of (heard_by here (get_or xs i 0))) (spent_is ∙ c.in-Short.is)))
@@ -58,20 +56,18 @@ loop-i-smaller c = omega arith
 
 pub loop-i-preserved : goal.loop-i-preserved
 loop-i-preserved c =
-    let at-loop : goal.At-loop-i =
-    c in
     let xs : List ℕ =
-    at-loop.before.before.args.piece.now in
+    c.args.piece.now in
     let i : ℕ =
-    at-loop.loop.i in
+    c.loop-i.i in
     let here : Front =
-    behind at-loop.before.before.args.start (take i xs) in
+    behind c.args.start (take i xs) in
     let heard_is : c.hear-heard.result ≡ heard_by here (get_or xs i 0) =
-    c.hear-heard.ensures.0 ∙ ap (λ (f : Front). heard_by f (get_or xs i 0)) at-loop.loop.invariant.1 in
-    let spent_is : left_over at-loop.loop.left (needs_of (heard_by here (get_or xs i 0))) ≡ c.spend-spent.result =
+    c.hear-heard.ensures.0 ∙ ap (λ (f : Front). heard_by f (get_or xs i 0)) c.loop-i.invariant.1 in
+    let spent_is : left_over c.loop-i.left (needs_of (heard_by here (get_or xs i 0))) ≡ c.spend-spent.result =
     sym (c.spend-spent.ensures
-    ∙ ap (left_over at-loop.loop.left) (c.needs.ensures ∙ ap needs_of heard_is)) in
-    let l = at-loop in
+    ∙ ap (left_over c.loop-i.left) (c.needs.ensures ∙ ap needs_of heard_is)) in
+    let l = c in
     let a = l.args in
     let need = needs_of (heard_by here (get_or xs i 0)) in
     let e = enough l.loop-i.left need c.in-Enough.rest
@@ -86,10 +82,8 @@ loop-i-preserved c =
 
 pub returns : goal.returns
 returns c =
-    let at-loop : goal.At-loop-i =
-    c in
     let xs : List ℕ =
-    at-loop.before.before.args.piece.now in
+    c.args.piece.now in
     let a = c.args in
     let e : take c.loop-i.i a.piece.now ≡ a.piece.now =
     take_all c.loop-i.i a.piece.now (omega arith) in

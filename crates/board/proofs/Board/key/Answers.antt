@@ -1,0 +1,6 @@
+-- `board::Board::key` meets its contract. Assumes nothing.
+use borrow.Author.Rules.{rules}
+use Rattle.board.proofs.Board.key.Goals as goal
+
+pub returns : goal.returns
+returns c = simp (c.pass.ensures, c.from_keyboard.ensures)

@@ -1,0 +1,6 @@
+-- `board::Board::line` meets its contract. Assumes nothing.
+use borrow.Author.Rules.{rules}
+use Rattle.board.proofs.Board.line.Goals as goal
+
+pub returns : goal.returns
+returns c = simp (c.follow.ensures, c.step.ensures)

@@ -1,0 +1,6 @@
+-- `board::Board::socket` meets its contract. Assumes nothing.
+use borrow.Author.Rules.{rules}
+use Rattle.board.proofs.Board.socket.Goals as goal
+
+pub returns : goal.returns
+returns c = simp (c.pass.ensures, c.from_socket.ensures)
