@@ -1,7 +1,7 @@
 -- What a fresh board is: off, with the local table, and blank. Assumes nothing.
 use mathlib.Core.Path.{◌≡◌, refl}
 use mathlib.Core.Bool.{false}
-use mathlib.Core.List.{List, [], ◌∷◌}
+use mathlib.Core.List.{[], ◌∷◌}
 use lib.ListN.{replicate}
 use Rattle.line_phases.specs.declared.Phase.TheVariants.{Off}
 use Rattle.links_replies.specs.Replies.{status_of, statuses_of}

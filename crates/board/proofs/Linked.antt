@@ -1,8 +1,8 @@
 -- Values among which no command stands leave the modem linked as it was. Assumes nothing.
 use mathlib.Core.Path.{◌≡◌, refl, sym, ap, ◌∙◌, subst⁻¹}
 use mathlib.Core.Bool.{true}
-use mathlib.Core.List.{List, [], ◌∷◌, ◌++◌}
-use Prim.Native.Nat.{ℕ, ◌<◌}
+use mathlib.Core.List.{List, [], ◌∷◌}
+use Prim.Native.Nat.{ℕ}
 use native.Mathlib.Omega.{arith}
 use Rattle.values.specs.Large.{Values}
 use Rattle.values.proofs.Found.{values_none, values_cons, values_head, values_tail}
@@ -11,7 +11,6 @@ use Rattle.links_wiring.specs.declared.Module.TheVariants.{Modem}
 use Rattle.links_wiring.specs.declared.Table.{Table}
 use Rattle.links_wiring.specs.Tables.{reaches}
 use Rattle.links_commands.specs.Commands.{pro1}
-use Rattle.links_hearing.specs.declared.Unfinished.{Unfinished}
 use Rattle.links_hearing.specs.declared.Unfinished.TheVariants.{Free}
 use Rattle.links_hearing.specs.Phrases.{Phrase, alone, escape, command, AllProper, all_values}
 use Rattle.links_hearing.specs.declared.ears.Ear.TheVariants.{Modem as modem}

@@ -25,7 +25,7 @@ use Rattle.board_feeding.specs.Feeding.{from_line, got}
 use Rattle.screen_answers.specs.declared.Answer.TheVariants.{Taken}
 use Rattle.screen.specs.Calls.{ran}
 use Rattle.board.specs.declared.Board.{Board}
-use Rattle.board.specs.Runs.{Event, front, run, requests, heard_in, calls_in, InBoard}
+use Rattle.board.specs.Runs.{front, run, requests, heard_in, calls_in, InBoard}
 use Rattle.board.specs.Pages.{NoCommand}
 use Rattle.board.proofs.Parts.{apart}
 use Rattle.board.proofs.Linked.{stays_linked}

@@ -4,6 +4,7 @@
 // go to each module that the modem reaches as they are, and others through the links, one after the other.
 // specs/Passing says what comes of values; proofs/Spread shows that one after the other they come to that.
 #![tactic(auto)]
+
 ghost use Rattle.std.specs.Prelude.{◌≡◌, true, cond, [], ◌∷◌, ◌≤◌, take};
 ghost use Rattle.lent.specs.Memory.{written, behind};
 ghost use Rattle.board_feeding.specs.Feeding.{contents};

@@ -4,6 +4,7 @@
 // takes as much as fits: who hands a piece in sees to the room (`fits` of the crate `board_front`) and to the ranges.
 // specs/Playing says what a piece comes to; proofs/SoFar and proofs/Gathered show that turn by turn it comes to that.
 #![tactic(auto)]
+
 ghost use Rattle.std.specs.Prelude.{◌≡◌, true, cond, ◌&&◌, [], ◌∷◌, ◌++◌, ◌+◌, ◌-◌, ◌≤◌, ◌<◌, leb, length, replicate};
 ghost use Rattle.lent.specs.Memory.{written};
 ghost use Rattle.links_wiring.specs.declared.Module.TheVariants.{Keyboard, Modem, Socket};

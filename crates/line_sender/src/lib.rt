@@ -8,6 +8,7 @@
 // resent, specs/Hearing what is heard, specs/Runs what a whole run is; proofs/Kept shows that the last sixteen blocks are
 // kept, proofs/Asked what a request brings, and proofs/Listening that no byte heard is lost.
 #![tactic(auto)]
+
 ghost use Rattle.std.specs.Prelude.{◌≡◌, ◌≤◌, ◌<◌, length, take};
 ghost use Rattle.line_sender.specs.States.{new_sender, keeping};
 ghost use Rattle.line_sender.specs.Calls.{sent_by, sent_left, resent_by, resent_left};

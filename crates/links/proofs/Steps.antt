@@ -15,7 +15,6 @@ use Rattle.links.specs.declared.Links.{Links}
 use Rattle.links_hearing.specs.declared.ears.Ear.{Ear}
 use Rattle.links_hearing.specs.declared.ears.Ear.TheVariants.{Modem as modem, Socket as socket}
 use Rattle.links.specs.declared.Answer.TheVariants.{Taken}
-use Rattle.links.specs.declared.Outcome.{Outcome}
 use Rattle.links_hearing.specs.Ears.{name_of}
 use Rattle.links_hearing.proofs.Apart.{owns}
 use Rattle.links.specs.States.{unfinished, in_range}

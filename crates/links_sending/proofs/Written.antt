@@ -1,16 +1,14 @@
 -- Orders obeyed, written out: what screen, keyboard, modem and socket get, field by field, and the table after. Assumes
 -- nothing.
 use mathlib.Core.Path.{◌≡◌, refl}
-use mathlib.Core.Bool.{true, false}
+use mathlib.Core.Bool.{true}
 use mathlib.Core.List.{List, [], ◌∷◌}
 use Prim.Native.Nat.{ℕ}
-use lib.ListN.{take}
-use Rattle.links_wiring.specs.declared.Module.{Module}
 use Rattle.links_wiring.specs.declared.Module.TheVariants.{Screen, Keyboard, Modem, Socket}
 use Rattle.links_wiring.specs.Tables.{local_table, connected_table}
 use Rattle.links_wiring.specs.Reading.{all_reached}
 use Rattle.links_replies.specs.Replies.{status_of, reply_of}
-use Rattle.links_commands.specs.declared.Order.TheVariants.{Nothing, Pass, Pair, Link, Ask}
+use Rattle.links_commands.specs.declared.Order.TheVariants.{Pass, Pair, Link, Ask}
 use Rattle.links_changes.specs.Linking.{linked}
 use Rattle.links_sending.specs.declared.Bytes.{Bytes}
 use Rattle.links_sending.specs.declared.Sent.{Sent}

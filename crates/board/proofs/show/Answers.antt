@@ -1,5 +1,4 @@
 -- `board::show` meets its contract. Assumes nothing.
-use borrow.Author.Rules.{rules}
 use Rattle.board.proofs.show.Goals as goal
 
 pub returns : goal.returns

@@ -1,6 +1,5 @@
 -- `links_changes::link` meets its contract. Assumes nothing.
 use Rattle.links_changes.specs.Linking.{linked}
-use borrow.Author.Rules.{rules}
 use Rattle.links_changes.proofs.link.Goals as goal
 
 pub returns-then-same : goal.returns-then-same

@@ -1,5 +1,4 @@
 -- `links_changes::mark` meets its contract. Assumes nothing.
-use borrow.Author.Rules.{rules}
 use Rattle.links_changes.proofs.mark.Goals as goal
 
 pub returns-in-Screen : goal.returns-in-Screen

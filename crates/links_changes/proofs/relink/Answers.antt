@@ -1,5 +1,4 @@
 -- `links_changes::relink` meets its contract. Assumes nothing.
-use borrow.Author.Rules.{rules}
 use Rattle.links_changes.proofs.relink.Goals as goal
 
 pub returns-in-Link : goal.returns-in-Link

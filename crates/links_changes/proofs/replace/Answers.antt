@@ -1,5 +1,4 @@
 -- `links_changes::replace` meets its contract. Assumes nothing.
-use borrow.Author.Rules.{rules}
 use Rattle.links_changes.proofs.replace.Goals as goal
 
 pub returns-in-Screen : goal.returns-in-Screen

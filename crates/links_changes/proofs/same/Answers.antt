@@ -1,5 +1,4 @@
 -- `links_changes::same` meets its contract. Assumes nothing.
-use borrow.Author.Rules.{rules}
 use Rattle.links_changes.proofs.same.Goals as goal
 
 pub returns : goal.returns

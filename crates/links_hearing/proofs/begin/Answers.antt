@@ -1,6 +1,5 @@
 -- `links_hearing::begin` meets its contract. Assumes nothing.
 use borrow.Author.Tests.{eq-eqb, ne_eqb}
-use borrow.Author.Rules.{rules}
 use Rattle.links_hearing.proofs.begin.Goals as goal
 
 pub returns-then-value-eq27 : goal.returns-then-value-eq27

@@ -1,6 +1,4 @@
 -- `links_hearing::escape` meets its contract. Assumes nothing.
-use borrow.Author.Tests.{ne_eqb}
-use borrow.Author.Rules.{rules}
 use Rattle.links_hearing.proofs.escape.Goals as goal
 
 pub returns-in-57 : goal.returns-in-57

@@ -1,6 +1,5 @@
 -- `links_hearing::hear` meets its contract. Assumes nothing.
 use Rattle.links_hearing.specs.Hearing.{heard}
-use borrow.Author.Rules.{rules}
 use Rattle.links_hearing.proofs.hear.Goals as goal
 
 pub returns-in-Free : goal.returns-in-Free

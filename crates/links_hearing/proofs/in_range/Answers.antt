@@ -1,7 +1,6 @@
 -- `links_hearing::in_range` meets its contract. Assumes nothing.
 use borrow.Author.Tests.{le-leb, lt-leb}
 use Rattle.links_hearing.specs.Hearing.{in_range}
-use borrow.Author.Rules.{rules}
 use Rattle.links_hearing.proofs.in_range.Goals as goal
 
 pub returns-in-Free : goal.returns-in-Free

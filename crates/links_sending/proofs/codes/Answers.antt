@@ -1,5 +1,4 @@
 -- `links_sending::codes` meets its contract. Assumes nothing.
-use borrow.Author.Rules.{rules}
 use Rattle.links_sending.proofs.codes.Goals as goal
 
 pub returns-in-Nothing : goal.returns-in-Nothing

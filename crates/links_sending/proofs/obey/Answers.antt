@@ -1,6 +1,5 @@
 -- `links_sending::obey` meets its contract. Assumes nothing.
 use Rattle.links_sending.specs.Sending.{obeyed}
-use borrow.Author.Rules.{rules}
 use Rattle.links_sending.proofs.obey.Goals as goal
 
 pub returns : goal.returns

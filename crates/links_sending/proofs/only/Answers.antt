@@ -1,5 +1,4 @@
 -- `links_sending::only` meets its contract. Assumes nothing.
-use borrow.Author.Rules.{rules}
 use Rattle.links_sending.proofs.only.Goals as goal
 
 pub returns-in-Screen : goal.returns-in-Screen

@@ -1,5 +1,4 @@
 -- `links_sending::receivers` meets its contract. Assumes nothing.
-use borrow.Author.Rules.{rules}
 use Rattle.links_sending.proofs.receivers.Goals as goal
 
 pub returns-in-Nothing : goal.returns-in-Nothing

@@ -1,5 +1,4 @@
 -- `links_sending::silence` meets its contract. Assumes nothing.
-use borrow.Author.Rules.{rules}
 use Rattle.links_sending.proofs.silence.Goals as goal
 
 pub returns : goal.returns

@@ -1,6 +1,5 @@
 -- `links_sending::told` meets its contract. Assumes nothing.
 use Rattle.links_replies.specs.Replies.{reply_of}
-use borrow.Author.Rules.{rules}
 use Rattle.links_sending.proofs.told.Goals as goal
 
 pub returns : goal.returns

@@ -1,6 +1,5 @@
 -- `screen_ranges::attributes_in_range` meets its contract. Assumes nothing.
 use borrow.Author.Tests.{le-leb, lt-leb}
-use borrow.Author.Rules.{rules}
 use Rattle.screen_ranges.proofs.attributes_in_range.Goals as goal
 
 pub returns-then-attributes-gt1 : goal.returns-then-attributes-gt1

@@ -1,5 +1,4 @@
 -- `screen_ranges::in_range` meets its contract. Assumes nothing.
-use borrow.Author.Rules.{rules}
 use Rattle.screen_pen.specs.Pens.{in_range}
 use Rattle.screen_ranges.proofs.in_range.Goals as goal
 

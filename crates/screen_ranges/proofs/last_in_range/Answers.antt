@@ -1,5 +1,4 @@
 -- `screen_ranges::last_in_range` meets its contract. Assumes nothing.
-use borrow.Author.Rules.{rules}
 use Rattle.screen_ranges.proofs.last_in_range.Goals as goal
 
 pub returns-in-Was : goal.returns-in-Was

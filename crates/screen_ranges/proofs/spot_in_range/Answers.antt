@@ -1,5 +1,4 @@
 -- `screen_ranges::spot_in_range` meets its contract. Assumes nothing.
-use borrow.Author.Rules.{rules}
 use Rattle.screen_pen.specs.Pens.{good_spot}
 use Rattle.screen_ranges.proofs.spot_in_range.Goals as goal
 

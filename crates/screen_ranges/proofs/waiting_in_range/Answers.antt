@@ -1,5 +1,4 @@
 -- `screen_ranges::waiting_in_range` meets its contract. Assumes nothing.
-use borrow.Author.Rules.{rules}
 use Rattle.screen_ranges.proofs.waiting_in_range.Goals as goal
 
 pub returns-in-Ground : goal.returns-in-Ground

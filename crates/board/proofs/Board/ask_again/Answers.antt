@@ -1,5 +1,4 @@
 -- `board::Board::ask_again` meets its contract. Assumes nothing.
-use borrow.Author.Rules.{rules}
 use Rattle.board.proofs.Board.ask_again.Goals as goal
 
 pub returns : goal.returns

@@ -1,6 +1,5 @@
 -- `board::Board::follow` meets its contract. Assumes nothing.
 use Rattle.board.specs.Calls.{following}
-use borrow.Author.Rules.{rules}
 use Rattle.board.proofs.Board.follow.Goals as goal
 
 pub returns-then-in_range : goal.returns-then-in_range

@@ -1,6 +1,5 @@
 -- `board::Board::in_range` meets its contract. Assumes nothing.
 use Rattle.board.specs.Boards.{in_range}
-use borrow.Author.Rules.{rules}
 use Rattle.board.proofs.Board.in_range.Goals as goal
 
 pub returns-then-is_broken : goal.returns-then-is_broken

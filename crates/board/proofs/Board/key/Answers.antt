@@ -1,5 +1,4 @@
 -- `board::Board::key` meets its contract. Assumes nothing.
-use borrow.Author.Rules.{rules}
 use Rattle.board.proofs.Board.key.Goals as goal
 
 pub returns : goal.returns

@@ -1,5 +1,4 @@
 -- `board::Board::line` meets its contract. Assumes nothing.
-use borrow.Author.Rules.{rules}
 use Rattle.board.proofs.Board.line.Goals as goal
 
 pub returns : goal.returns

@@ -1,6 +1,5 @@
 -- `board::Board::pass` meets its contract. Assumes nothing.
 use Rattle.board.specs.Calls.{passing}
-use borrow.Author.Rules.{rules}
 use Rattle.board.proofs.Board.pass.Goals as goal
 
 pub returns-then-in_range : goal.returns-then-in_range

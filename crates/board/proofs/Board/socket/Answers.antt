@@ -1,5 +1,4 @@
 -- `board::Board::socket` meets its contract. Assumes nothing.
-use borrow.Author.Rules.{rules}
 use Rattle.board.proofs.Board.socket.Goals as goal
 
 pub returns : goal.returns

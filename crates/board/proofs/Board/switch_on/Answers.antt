@@ -1,5 +1,4 @@
 -- `board::Board::switch_on` meets its contract. Assumes nothing.
-use borrow.Author.Rules.{rules}
 use Rattle.board.proofs.Board.switch_on.Goals as goal
 
 pub returns : goal.returns

@@ -1,5 +1,4 @@
 -- `board::Board::with_connected` meets its contract. Assumes nothing.
-use borrow.Author.Rules.{rules}
 use Rattle.board.proofs.Board.with_connected.Goals as goal
 
 pub returns : goal.returns

@@ -1,6 +1,5 @@
 -- `links::Links::choose` meets its contract. Assumes nothing.
 use Rattle.links.specs.Calls.{choosing}
-use borrow.Author.Rules.{rules}
 use Rattle.links.proofs.Links.choose.Goals as goal
 
 pub returns-then-in_range : goal.returns-then-in_range

@@ -1,5 +1,4 @@
 -- `links::Links::connected` meets its contract. Assumes nothing.
-use borrow.Author.Rules.{rules}
 use Rattle.links.proofs.Links.connected.Goals as goal
 
 pub returns : goal.returns

@@ -1,6 +1,5 @@
 -- `links::Links::from_keyboard` meets its contract. Assumes nothing.
 use Rattle.links.specs.Calls.{from_keyboard}
-use borrow.Author.Rules.{rules}
 use Rattle.links.proofs.Links.from_keyboard.Goals as goal
 
 pub returns : goal.returns

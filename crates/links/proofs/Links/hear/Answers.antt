@@ -1,6 +1,5 @@
 -- `links::Links::hear` meets its contract. Assumes nothing.
 use Rattle.links.specs.Calls.{from_ear}
-use borrow.Author.Rules.{rules}
 use Rattle.links.proofs.Links.hear.Goals as goal
 
 pub returns : goal.returns

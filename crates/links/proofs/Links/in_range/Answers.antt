@@ -1,6 +1,5 @@
 -- `links::Links::in_range` meets its contract. Assumes nothing.
 use Rattle.links.specs.States.{in_range}
-use borrow.Author.Rules.{rules}
 use Rattle.links.proofs.Links.in_range.Goals as goal
 
 pub returns-then-links_itself : goal.returns-then-links_itself

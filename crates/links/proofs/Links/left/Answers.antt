@@ -1,5 +1,4 @@
 -- `links::Links::left` meets its contract. Assumes nothing.
-use borrow.Author.Rules.{rules}
 use Rattle.links.proofs.Links.left.Goals as goal
 
 pub returns-in-Modem : goal.returns-in-Modem

@@ -1,5 +1,4 @@
 -- `links::Links::local` meets its contract. Assumes nothing.
-use borrow.Author.Rules.{rules}
 use Rattle.links.proofs.Links.local.Goals as goal
 
 pub returns : goal.returns

@@ -1,6 +1,5 @@
 -- `links::Links::take` meets its contract. Assumes nothing.
 use Rattle.links.specs.Calls.{taking}
-use borrow.Author.Rules.{rules}
 use Rattle.links.proofs.Links.take.Goals as goal
 
 pub returns : goal.returns

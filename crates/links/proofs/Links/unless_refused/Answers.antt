@@ -1,6 +1,5 @@
 -- `links::Links::unless_refused` meets its contract. Assumes nothing.
 use borrow.Author.Tests.{le-ltb, lt-ltb}
-use borrow.Author.Rules.{rules}
 use Rattle.links.proofs.Links.unless_refused.Goals as goal
 
 pub returns-then-value-gt127 : goal.returns-then-value-gt127

@@ -1,6 +1,5 @@
 -- `links::Links::with_local` meets its contract. Assumes nothing.
 use Rattle.links.specs.Calls.{choosing}
-use borrow.Author.Rules.{rules}
 use Rattle.links.proofs.Links.with_local.Goals as goal
 
 pub returns : goal.returns

@@ -1,5 +1,4 @@
 -- `screen_pen::Pen::fresh` meets its contract. Assumes nothing.
-use borrow.Author.Rules.{rules}
 use Rattle.screen_pen.proofs.Pen.fresh.Goals as goal
 
 pub returns : goal.returns

@@ -1,5 +1,4 @@
 -- `screen_pen::Pen::write` meets its contract. Assumes nothing.
-use borrow.Author.Rules.{rules}
 use Rattle.screen_pen.proofs.Pen.write.Goals as goal
 
 pub returns : goal.returns

@@ -1,5 +1,4 @@
 -- `links_hearing::Ear::own` meets its contract. Assumes nothing.
-use borrow.Author.Rules.{rules}
 use Rattle.links_hearing.proofs.ears.Ear.own.Goals as goal
 
 pub returns-in-Modem : goal.returns-in-Modem
