@@ -6,6 +6,7 @@
 // `lines_noted` hands out besides what each byte was to the receiver, for a night book.
 // specs/Pieces says what both promise; proofs/ shows that hearing the piece comes to what single calls come to.
 #![tactic(auto)]
+
 ghost use Rattle.std.specs.Prelude.{◌≡◌, true, ◌&&◌, ◌≤◌, length};
 ghost use Rattle.links_wiring.specs.declared.Module.TheVariants.{Keyboard, Modem, Socket};
 ghost use Rattle.board_front.specs.Fitting.{room_in};

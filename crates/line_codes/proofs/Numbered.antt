@@ -1,6 +1,6 @@
 -- The numbers of the blocks count modulo 16, and each has its request. Assumes nothing.
 use mathlib.Core.Path.{◌≡◌, refl}
-use mathlib.Core.List.{List, [], ◌∷◌, map}
+use mathlib.Core.List.{[], ◌∷◌, map}
 use Prim.Native.Nat.{ℕ, suc, ◌+◌, ◌%◌}
 use native.Mathlib.Omega.{arith}
 use Rattle.block_division.specs.Division.{low_bits}

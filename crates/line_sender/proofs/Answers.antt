@@ -1,6 +1,6 @@
--- The number of each call of the sender, what it hands back and what it leaves, test after test. Assumes nothing.
+-- What a call of the sender that is not refused hands back and leaves, and the number of one that is. Assumes nothing.
 use mathlib.Core.Path.{◌≡◌, sym, ap, ap₂, ◌∙◌}
-use mathlib.Core.Bool.{Bool, true, false, cond, ◌&&◌, ◌||◌, not}
+use mathlib.Core.Bool.{Bool, true, cond, ◌&&◌, ◌||◌, not}
 use mathlib.Core.List.{List, ◌∷◌, ◌++◌}
 use Prim.Native.Nat.{ℕ, ◌+◌, ◌-◌, ◌*◌, ◌≤◌, ◌<◌}
 use native.Mathlib.Omega.{arith}
@@ -8,13 +8,13 @@ use lib.Dec.{eqb, ltb}
 use lib.ListN.{length, get_or, take, drop, length-drop}
 use lib.Seq.{take-add, drop_at, length-take-le}
 use borrow.Author.Tests.{lt-ltb, le-ltb, eq-eqb, ne_eqb, ltb-true}
-use Rattle.laws.proofs.Computed.{and_left, and_right, is_true, holds}
+use Rattle.laws.proofs.Computed.{and_left, is_true, holds}
 use Rattle.values.specs.Large.{first_large}
 use Rattle.block_maker.specs.Making.{block_of, make_number}
 use Rattle.line_codes.specs.Codes.{syn, nack, four}
 use Rattle.line_sender.specs.declared.Sender.{Sender}
 use Rattle.line_sender.specs.declared.Reply.{Reply}
-use Rattle.line_sender.specs.declared.Reply.TheVariants.{Again, NotKept, NoRequest, Refused}
+use Rattle.line_sender.specs.declared.Reply.TheVariants.{Again, NotKept, NoRequest}
 use Rattle.line_sender.specs.States.{in_range, stored, keeping}
 use Rattle.line_sender.specs.Calls.{send_number, sent_as, sent_by, sent_left, wanted, before, is_kept}
 use Rattle.line_sender.specs.Calls.{from_on, reply_to, bytes_for, bytes_to, resend_number, resent_as, resent_by}
@@ -24,44 +24,17 @@ pub kept_in : (s : Sender) → in_range s ≡ true → s.kept < 17
 kept_in s g =
     ltb-true s.kept 17 (is_true (ltb s.kept 17) (and_left (ltb s.kept 17) (ltb s.next 16) (holds g)))
 
-pub next_in : (s : Sender) → in_range s ≡ true → s.next < 16
-next_in s g =
-    ltb-true s.next 16 (is_true (ltb s.next 16) (and_right (ltb s.kept 17) (ltb s.next 16) (holds g)))
-
 -- ---- send
 
 module _ (s : Sender) (vs O : List ℕ) where
-  pub none : length vs ≡ 0 → send_number s vs O ≡ 1
-  none h = simp (eq-eqb _ _ h)
-
-  module _ (some : length vs ≡ 0 → ⊥) where
-    pub many : 15 < length vs → send_number s vs O ≡ 1
-    many h = simp (ne_eqb _ _ some, lt-ltb _ _ h)
-
-    pub broken : length vs ≤ 15 → in_range s ≡ false → send_number s vs O ≡ 5
-    broken few g =
-        ap₂ (λ (t u : Bool). cond (t || u) 1 (cond (not (in_range s)) 5
-        (cond (ltb (first_large vs) (length vs)) 2 (cond (ltb (length O) 17) 4 0)))) (ne_eqb _ _ some) (le-ltb _ _ few)
-        ∙ ap (λ (t : Bool). cond (not t) 5 (cond (ltb (first_large vs) (length vs)) 2 (cond (ltb (length O) 17) 4 0))) g
+  pub many : (length vs ≡ 0 → ⊥) → 15 < length vs → send_number s vs O ≡ 1
+  many some h = simp (ne_eqb _ _ some, lt-ltb _ _ h)
 
   -- in range the number is the maker's
   pub as_made : in_range s ≡ true → send_number s vs O ≡ make_number vs O
   as_made g =
       ap (λ (t : Bool). cond (eqb (length vs) 0 || ltb 15 (length vs)) 1 (cond (not t) 5
       (cond (ltb (first_large vs) (length vs)) 2 (cond (ltb (length O) 17) 4 0)))) g
-
-  pub refused_sent : (n p : ℕ) → send_number s vs O ≡ n → (n ≡ 0 → ⊥) → p ≡ cond (eqb n 2) (first_large vs) 0
-      → record { sender = s; answer = n; place = p } ≡ sent_by s vs O
-  refused_sent n p e ne q =
-      ap (λ (p : ℕ). record { sender = s; answer = n; place = p }) q
-      ∙ sym (ap (λ (t : Bool). cond t (record { sender = keeping s (block_of vs); answer = 0; place = 0 })
-      (record { sender = s; answer = n; place = cond (eqb n 2) (first_large vs) 0 })) (ne_eqb n 0 ne))
-      ∙ ap (λ (n : ℕ). sent_as n s vs) (sym e)
-
-  pub refused_left : (n : ℕ) → send_number s vs O ≡ n → (n ≡ 0 → ⊥) → O ≡ sent_left s vs O
-  refused_left n e ne =
-      sym (ap (λ (t : Bool). cond t (block_of vs ++ drop 17 O) O) (ne_eqb n 0 ne))
-      ∙ ap (λ (n : ℕ). cond (eqb n 0) (block_of vs ++ drop 17 O) O) (sym e)
 
   pub taken_sent : send_number s vs O ≡ 0
       → record { sender = keeping s (block_of vs); answer = 0; place = 0 } ≡ sent_by s vs O
@@ -73,82 +46,48 @@ module _ (s : Sender) (vs O : List ℕ) where
 -- ---- resend
 
 module _ (s : Sender) (qs O : List ℕ) where
-  pub not_two : (length qs ≡ 2 → ⊥) → resend_number s qs O ≡ 1
-  not_two ne =
-      ap (λ (t : Bool). cond (not t) 1 (cond (not (in_range s)) 5 (cond (ltb (length O) (length (bytes_to s qs))) 4 0)))
-      (ne_eqb (length qs) 2 ne)
-
-  pub refused_resent : (n : ℕ) → resend_number s qs O ≡ n → (n ≡ 0 → ⊥)
-      → (record { sender = s; answer = n; reply = Refused; written = 0 } ≡ resent_by s qs O) × (O ≡ resent_left s qs O)
-  refused_resent n e ne = (
-    sym (ap (λ (t : Bool). cond t
-        (record { sender = s; answer = 0; reply = reply_to s qs; written = length (bytes_to s qs) })
-        (record { sender = s; answer = n; reply = Refused; written = 0 })) (ne_eqb n 0 ne))
-        ∙ ap (λ (n : ℕ). resent_as n s qs) (sym e),
-    sym (ap (λ (t : Bool). cond t (bytes_to s qs ++ drop (length (bytes_to s qs)) O) O) (ne_eqb n 0 ne))
-        ∙ ap (λ (n : ℕ). cond (eqb n 0) (bytes_to s qs ++ drop (length (bytes_to s qs)) O) O) (sym e),
-  )
-
-  module _ (two : length qs ≡ 2) where
-    pub broken_too : in_range s ≡ false → resend_number s qs O ≡ 5
-    broken_too g =
+  module _ (two : length qs ≡ 2) (g : in_range s ≡ true) where
+    by_room : resend_number s qs O ≡ cond (ltb (length O) (length (bytes_to s qs))) 4 0
+    by_room =
         ap₂ (λ (t u : Bool). cond (not t) 1 (cond (not u) 5 (cond (ltb (length O) (length (bytes_to s qs))) 4 0)))
         (eq-eqb (length qs) 2 two) g
 
-    module _ (g : in_range s ≡ true) where
-      by_room : resend_number s qs O ≡ cond (ltb (length O) (length (bytes_to s qs))) 4 0
-      by_room =
-          ap₂ (λ (t u : Bool). cond (not t) 1 (cond (not u) 5 (cond (ltb (length O) (length (bytes_to s qs))) 4 0)))
-          (eq-eqb (length qs) 2 two) g
+    module _ (p : Reply) (e : reply_to s qs ≡ p) where
+      replied : resend_number s qs O ≡ cond (ltb (length O) (length (bytes_for p s (wanted qs)))) 4 0
+      replied =
+          by_room ∙ ap (λ (q : Reply). cond (ltb (length O) (length (bytes_for q s (wanted qs)))) 4 0) e
 
-      module _ (p : Reply) (e : reply_to s qs ≡ p) where
-        replied : resend_number s qs O ≡ cond (ltb (length O) (length (bytes_for p s (wanted qs)))) 4 0
-        replied =
-            by_room ∙ ap (λ (q : Reply). cond (ltb (length O) (length (bytes_for q s (wanted qs)))) 4 0) e
-
-        pub no_room : length O < length (bytes_for p s (wanted qs)) → resend_number s qs O ≡ 4
-        no_room h = replied ∙ ap (λ (t : Bool). cond t 4 0) (lt-ltb _ _ h)
-
-        pub gives : length (bytes_for p s (wanted qs)) ≤ length O
-            → (record { sender = s; answer = 0; reply = p; written = length (bytes_for p s (wanted qs)) }
-            ≡ resent_by s qs O)
-            × (bytes_for p s (wanted qs) ++ drop (length (bytes_for p s (wanted qs))) O ≡ resent_left s qs O)
-        gives h =
-            let z : resend_number s qs O ≡ 0 = replied ∙ ap (λ (t : Bool). cond t 4 0) (le-ltb _ _ h) in (
-              ap (λ (q : Reply). record {
-                sender = s;
-                answer = 0;
-                reply = q;
-                written = length (bytes_for q s (wanted qs));
-              }) (sym e)
-                  ∙ ap (λ (n : ℕ). resent_as n s qs) (sym z),
-              ap (λ (q : Reply). bytes_for q s (wanted qs) ++ drop (length (bytes_for q s (wanted qs))) O) (sym e)
-                  ∙ ap (λ (n : ℕ). cond (eqb n 0) (bytes_to s qs ++ drop (length (bytes_to s qs)) O) O) (sym z),
-            )
+      pub gives : length (bytes_for p s (wanted qs)) ≤ length O
+          → (record { sender = s; answer = 0; reply = p; written = length (bytes_for p s (wanted qs)) }
+          ≡ resent_by s qs O)
+          × (bytes_for p s (wanted qs) ++ drop (length (bytes_for p s (wanted qs))) O ≡ resent_left s qs O)
+      gives h =
+          let z : resend_number s qs O ≡ 0 = replied ∙ ap (λ (t : Bool). cond t 4 0) (le-ltb _ _ h) in (
+            ap (λ (q : Reply). record {
+              sender = s;
+              answer = 0;
+              reply = q;
+              written = length (bytes_for q s (wanted qs));
+            }) (sym e)
+                ∙ ap (λ (n : ℕ). resent_as n s qs) (sym z),
+            ap (λ (q : Reply). bytes_for q s (wanted qs) ++ drop (length (bytes_for q s (wanted qs))) O) (sym e)
+                ∙ ap (λ (n : ℕ). cond (eqb n 0) (bytes_to s qs ++ drop (length (bytes_to s qs)) O) O) (sym z),
+          )
 
   -- ---- which reply
 
   abbrev choice : Bool → Bool → Reply
   choice t u = cond t (cond u Again NotKept) NoRequest
 
-  pub no_nack : (get_or qs 0 0 ≡ nack → ⊥) → reply_to s qs ≡ NoRequest
-  no_nack ne =
-      ap (λ (t : Bool). choice (t && eqb (get_or qs 1 0) (four (wanted qs))) (is_kept s (wanted qs))) (ne_eqb _ _ ne)
+  module _ (a : get_or qs 0 0 ≡ nack) (b : get_or qs 1 0 ≡ four (wanted qs)) where
+    kept_or_not : reply_to s qs ≡ choice true (is_kept s (wanted qs))
+    kept_or_not = ap₂ (λ (t u : Bool). choice (t && u) (is_kept s (wanted qs))) (eq-eqb _ _ a) (eq-eqb _ _ b)
 
-  module _ (a : get_or qs 0 0 ≡ nack) where
-    pub no_four : (get_or qs 1 0 ≡ four (wanted qs) → ⊥) → reply_to s qs ≡ NoRequest
-    no_four ne =
-        ap₂ (λ (t u : Bool). choice (t && u) (is_kept s (wanted qs))) (eq-eqb _ _ a) (ne_eqb _ _ ne)
+    pub not_kept : s.kept ≤ before s (wanted qs) → reply_to s qs ≡ NotKept
+    not_kept h = kept_or_not ∙ ap (choice true) (le-ltb _ _ h)
 
-    module _ (b : get_or qs 1 0 ≡ four (wanted qs)) where
-      kept_or_not : reply_to s qs ≡ choice true (is_kept s (wanted qs))
-      kept_or_not = ap₂ (λ (t u : Bool). choice (t && u) (is_kept s (wanted qs))) (eq-eqb _ _ a) (eq-eqb _ _ b)
-
-      pub not_kept : s.kept ≤ before s (wanted qs) → reply_to s qs ≡ NotKept
-      not_kept h = kept_or_not ∙ ap (choice true) (le-ltb _ _ h)
-
-      pub is_kept_lem : before s (wanted qs) < s.kept → reply_to s qs ≡ Again
-      is_kept_lem h = kept_or_not ∙ ap (choice true) (lt-ltb _ _ h)
+    pub is_kept_lem : before s (wanted qs) < s.kept → reply_to s qs ≡ Again
+    is_kept_lem h = kept_or_not ∙ ap (choice true) (lt-ltb _ _ h)
 
 -- ---- the bytes
 

@@ -2,11 +2,11 @@
 use mathlib.Core.Path.{◌≡◌, sym, ap, ap₂, ◌∙◌}
 use mathlib.Core.Bool.{Bool, cond}
 use mathlib.Core.List.{List, [], ◌∷◌, ◌++◌, append-nil}
-use Prim.Native.Nat.{ℕ, zero, suc, ◌+◌, ◌-◌, ◌*◌, ◌≤◌, ◌<◌}
+use Prim.Native.Nat.{ℕ, zero, suc, ◌+◌, ◌-◌, ◌*◌, ◌≤◌}
 use native.Mathlib.Omega.{arith}
 use lib.ListN.{length, get_or, take, drop, length-append, length-drop, drop_of_length-le}
 use lib.Seq.{get_or-drop, take_all, take_at, paste}
-use borrow.Author.Tests.{lt-ltb, le-ltb}
+use borrow.Author.Tests.{le-ltb}
 use Rattle.line_codes.specs.Codes.{next}
 use Rattle.line_sender.specs.declared.Sender.{Sender}
 use Rattle.line_sender.specs.States.{added, moved_up, keeping}
@@ -34,13 +34,6 @@ moved B w l =
 -- ---- one block more
 
 module _ (s : Sender) (w : List ℕ) where
-  pub keeps_behind : (a : List ℕ) (x : ℕ) → s.kept < 16 → a ≡ paste s.blocks (17 * s.kept) w 17
-      → x ≡ next s.next
-      → ◌≡◌ {A = Sender} (record { blocks = a; kept = s.kept + 1; next = x; nack = s.nack }) (keeping s (take 17 w))
-  keeps_behind a x h e f =
-      ap₂ (λ (b : List ℕ) (y : ℕ). record { blocks = b; kept = s.kept + 1; next = y; nack = s.nack }) e f
-      ∙ sym (ap (λ (t : Bool). cond t (added s (take 17 w)) (moved_up s (take 17 w))) (lt-ltb _ _ h))
-
   pub keeps_last : (a : List ℕ) (x : ℕ) → s.kept ≡ 16 → length s.blocks ≡ 272
       → a ≡ paste (drop 17 s.blocks ++ drop 255 s.blocks) 255 w 17 → x ≡ next s.next
       → ◌≡◌ {A = Sender} (record { blocks = a; kept = 16; next = x; nack = s.nack }) (keeping s (take 17 w))

@@ -7,8 +7,8 @@ use mathlib.Core.Logic.{⊎_elim}
 use Prim.Native.Nat.{ℕ, zero, suc, ◌+◌, ◌-◌, ◌*◌, ◌%◌, ◌≤◌, ◌<◌}
 use native.Mathlib.Nat.{mod-lt, zero-lt-suc}
 use native.Mathlib.Omega.{arith}
-use lib.Dec.{eqb, ltb}
-use lib.ListN.{length, take, drop, length-append, length-drop}
+use lib.Dec.{eqb}
+use lib.ListN.{length, drop, length-append, length-drop}
 use lib.Seq.{take_all, take_at, drop-nil, drop-append-le, drop-append-add, drop-drop, length-take-le}
 use borrow.Author.Tests.{lt-ltb, le-ltb, eqb-true}
 use Rattle.laws.proofs.Computed.{apart}
@@ -26,7 +26,7 @@ use Rattle.line_sender.specs.declared.Resent.{Resent}
 use Rattle.line_sender.specs.declared.Reply.TheVariants.{Refused}
 use Rattle.line_sender.specs.States.{in_range, new_sender, stored, added, moved_up, keeping}
 use Rattle.line_sender.specs.Calls.{send_number, sent_as, sent_by, resend_number, resent_by, reply_to, bytes_to}
-use Rattle.line_sender.specs.Runs.{Call, send, resend, hear, obey, after, made_by, made, last_sixteen, having_sent}
+use Rattle.line_sender.specs.Runs.{Call, send, resend, hear, obey, after, made_by, made, last_sixteen}
 use Rattle.line_sender.specs.Hearing.{holding, heard_by}
 use Rattle.line_sender.proofs.Answers.{many, as_made}
 use Rattle.line_sender.proofs.Listening.{heard_held}

@@ -1,12 +1,12 @@
 -- What the sender hears: no byte is lost, and a request is given exactly where NACK and 4/X stand. Assumes nothing.
-use mathlib.Core.Path.{◌≡◌, refl, sym, ap, ap₂, ◌∙◌, subst⁻¹}
+use mathlib.Core.Path.{◌≡◌, refl, sym, ap, ◌∙◌}
 use mathlib.Core.Bool.{Bool, true, false, cond, ◌&&◌}
 use mathlib.Core.List.{List, [], ◌∷◌, ◌++◌, map, append_assoc, append-nil}
 use Prim.Native.Nat.{ℕ, ◌%◌, ◌≤◌}
 use native.Mathlib.Omega.{arith}
 use lib.Dec.{eqb}
-use lib.ListN.{length, take}
-use borrow.Author.Tests.{eqb-true, eq-eqb, ne_eqb}
+use lib.ListN.{length}
+use borrow.Author.Tests.{eqb-true}
 use Rattle.block_parity.specs.Parity.{ones, even, with_parity}
 use Rattle.block_division.specs.Division.{low_bits}
 use Rattle.line_codes.specs.Codes.{plainly, nack, four}
@@ -59,31 +59,6 @@ heard_held s b g = ap (λ (h : Heard). h.sender) (heard_so s b g) ∙ go s.nack
     go : (t : Bool) → (cond {A = Heard} t (heard_behind s b) (heard_alone s [] b)).sender ≡ holding s (eqb b nack)
     go true = behind_held s b
     go false = alone_held s [] b
-
--- ---- what the code says at each way out of it
-
-module _ (s : Sender) (vs : List ℕ) (b : ℕ) where
-  pub is_nack : b ≡ nack → giving 0 (holding s true) vs [] ≡ heard_alone s vs b
-  is_nack e =
-      sym (ap (λ (t : Bool). cond t (giving 0 (holding s true) vs []) (giving 0 (holding s false) (vs ++ (plainly b ∷ [])) []))
-      (eq-eqb b nack e))
-
-  pub no_nack : (b ≡ nack → ⊥) → giving 0 (holding s false) (vs ++ (plainly b ∷ [])) [] ≡ heard_alone s vs b
-  no_nack ne =
-      sym (ap (λ (t : Bool). cond t (giving 0 (holding s true) vs []) (giving 0 (holding s false) (vs ++ (plainly b ∷ [])) []))
-      (ne_eqb b nack ne))
-
-module _ (s : Sender) (b : ℕ) where
-  by_code : (t : Bool) → eqb b (four (b % 16)) ≡ t
-      → heard_behind s b ≡ cond t (giving 0 (holding s false) [] (nack ∷ b ∷ [])) (heard_alone s (21 ∷ []) b)
-  by_code t e =
-      ap (λ (u : Bool). cond u (giving 0 (holding s false) [] (nack ∷ b ∷ [])) (heard_alone s (21 ∷ []) b)) e
-
-  pub is_request : b ≡ four (b % 16) → giving 0 (holding s false) [] (nack ∷ b ∷ []) ≡ heard_behind s b
-  is_request e = sym (by_code true (eq-eqb b (four (b % 16)) e))
-
-  pub no_request : (b ≡ four (b % 16) → ⊥) → heard_alone s (21 ∷ []) b ≡ heard_behind s b
-  no_request ne = sym (by_code false (ne_eqb b (four (b % 16)) ne))
 
 -- ---- bytes one after the other
 

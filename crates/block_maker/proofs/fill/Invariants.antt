@@ -1,14 +1,10 @@
 -- `block_maker::fill` meets its contract: the first i bytes are useful ones, and the others as they were. Assumes
 -- nothing.
-use mathlib.Core.Path.{◌≡◌, refl, ap, ap₂, ◌∙◌}
-use mathlib.Core.List.{List, ◌++◌}
-use Prim.Native.Nat.{ℕ, ◌-◌, ◌≤◌}
-use native.Mathlib.Omega.{arith}
-use lib.ListN.{length, take, drop, set, length-set}
-use lib.Seq.{take_all}
-use Rattle.laws.proofs.Lists.{put}
+use mathlib.Core.Path.{◌≡◌}
+use mathlib.Core.List.{◌++◌}
+use Prim.Native.Nat.{◌-◌, ◌≤◌}
+use lib.ListN.{length, take, drop}
 use Rattle.block_maker.specs.Making.{useful}
-use Rattle.block_maker.proofs.Blocks.{useful_length}
 use Rattle.block_maker.proofs.fill.Given as goal
 
 abbrev pub invariant-loop-i : goal.invariant-loop-i

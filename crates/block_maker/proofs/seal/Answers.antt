@@ -5,7 +5,6 @@ use Prim.Native.Nat.{ℕ}
 use native.Mathlib.Omega.{arith}
 use lib.ListN.{set}
 use lib.Seq.{length-take-le}
-use borrow.Author.Rules.{rules}
 use Rattle.block_parity.specs.Parity.{with_parity}
 use Rattle.block_maker.proofs.Stores.{seal_stores}
 use Rattle.block_maker.proofs.seal.Goals as goal

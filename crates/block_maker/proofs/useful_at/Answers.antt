@@ -1,6 +1,5 @@
 -- `block_maker::useful_at` meets its contract. Assumes nothing.
 use mathlib.Core.Path.{sym, ◌∙◌}
-use borrow.Author.Rules.{rules}
 use Rattle.block_maker.proofs.Stores.{useful_in, useful_past}
 use Rattle.block_maker.proofs.useful_at.Goals as goal
 

@@ -1,15 +1,10 @@
 -- `block_maker::values` meets its contract: the first i places hold values, and the others are as they began. Assumes
 -- nothing.
-use mathlib.Core.Path.{◌≡◌, refl, ap, ap₂, sym, ◌∙◌}
-use mathlib.Core.List.{List, ◌++◌, append-nil}
-use Prim.Native.Nat.{ℕ, ◌-◌, ◌≤◌}
-use native.Mathlib.Omega.{arith}
-use lib.ListN.{length, take, drop, set, replicate}
-use lib.Seq.{take_all}
-use borrow.Author.Rules.{rules}
-use Rattle.laws.proofs.Lists.{put}
+use mathlib.Core.Path.{◌≡◌}
+use mathlib.Core.List.{◌++◌}
+use Prim.Native.Nat.{◌-◌, ◌≤◌}
+use lib.ListN.{take, drop, replicate}
 use Rattle.block_maker.specs.Making.{values_of}
-use Rattle.block_maker.proofs.Blocks.{values_length, value_at}
 use Rattle.block_maker.proofs.values.Given as goal
 
 abbrev pub invariant-loop-place : goal.invariant-loop-place

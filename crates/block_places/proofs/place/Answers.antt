@@ -1,7 +1,6 @@
 -- `block_places::place` meets its contract, by the table's rule. Assumes nothing.
 use Prim.Native.Nat.{◌%◌}
 use native.Mathlib.Nat.{mod-lt, zero-lt-suc}
-use borrow.Author.Rules.{rules}
 use Rattle.block_places.proofs.Pointed.{pointed}
 use Rattle.block_places.proofs.place.Goals as goal
 

@@ -53,7 +53,7 @@ returns-then-not-is_the_odd_one c =
     let r : c.remainder-r.result ≡ remainder b = c.remainder-r.ensures in
     let not_clean : T (all_even (take 16 b)) → remainder b ≡ 0 → ⊥ =
     elim c.else-even.branch [
-      else-even-via-then-even+else-r-eq0 w ↦ λ e z. w.if-r-eq0.false (r ∙ z)
+      | else-even-via-then-even+else-r-eq0 w ↦ λ e z. w.if-r-eq0.false (r ∙ z)
       | else-even-via-else-even w ↦ λ e z. fails (sym c.are_even-even.ensures ∙ w.if-even.false) e
     ] in
     let p : PointsTo (remainder b) c.place-k.result = points b c.remainder-r.result c.place-k.result r c.place-k.ensures in
@@ -67,7 +67,7 @@ returns c =
     let r : c.remainder-r.result ≡ remainder b = c.remainder-r.ensures in
     let not_clean : T (all_even (take 16 b)) → remainder b ≡ 0 → ⊥ =
     elim c.else-even.branch [
-      else-even-via-then-even+else-r-eq0 w ↦ λ e z. w.if-r-eq0.false (r ∙ z)
+      | else-even-via-then-even+else-r-eq0 w ↦ λ e z. w.if-r-eq0.false (r ∙ z)
       | else-even-via-else-even w ↦ λ e z. fails (sym c.are_even-even.ensures ∙ w.if-even.false) e
     ] in
     let p : PointsTo (remainder b) c.place-k.result = points b c.remainder-r.result c.place-k.result r c.place-k.ensures in

@@ -7,7 +7,6 @@ use native.Mathlib.Omega.{arith}
 use lib.Dec.{eqb, eqb→eq}
 use lib.ListN.{get_or, set}
 use lib.Seq.{set_out}
-use borrow.Author.Rules.{rules}
 use Rattle.laws.proofs.Computed.{at}
 use Rattle.block_validity.specs.Changed.{turned, flip}
 use Rattle.block_validity.proofs.flip.Goals as goal

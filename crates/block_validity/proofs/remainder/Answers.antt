@@ -6,7 +6,6 @@ use native.Mathlib.Omega.{arith}
 use lib.ListN.{get_or}
 use lib.Seq.{length-take-le}
 use lib.Bits.{bit_xor}
-use borrow.Author.Rules.{rules}
 use Rattle.block_validity.proofs.Powers.{remainder_by_check, remainder_short}
 use Rattle.block_validity.proofs.remainder.Goals as goal
 

@@ -1,7 +1,6 @@
 -- `line_codes::listen` meets its contract. Assumes nothing.
 use mathlib.Core.Path.{sym, ◌∙◌}
 use borrow.Author.Tests.{eq-eqb, le-ltb, lt-ltb, ne_eqb}
-use borrow.Author.Rules.{rules}
 use Rattle.line_codes.proofs.listen.Goals as goal
 
 pub returns-then-seen-lt2 : goal.returns-then-seen-lt2

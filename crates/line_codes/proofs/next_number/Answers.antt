@@ -1,6 +1,5 @@
 -- `line_codes::next_number` meets its contract. Assumes nothing.
 use native.Mathlib.Omega.{arith}
-use borrow.Author.Rules.{rules}
 use Rattle.line_codes.proofs.next_number.Goals as goal
 
 pub returns : goal.returns

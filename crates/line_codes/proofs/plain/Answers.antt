@@ -1,5 +1,4 @@
 -- `line_codes::plain` meets its contract. Assumes nothing.
-use borrow.Author.Rules.{rules}
 use Rattle.line_codes.proofs.plain.Goals as goal
 
 pub returns-then-is_even : goal.returns-then-is_even

@@ -5,14 +5,9 @@ use Prim.Native.Nat.{ℕ}
 use native.Mathlib.Omega.{arith}
 use lib.ListN.{length}
 use lib.Seq.{paste}
-use Rattle.line_sender.proofs.Arrays.{keeps_behind, keeps_last}
+use Rattle.line_sender.proofs.Arrays.{keeps_last}
 use borrow.Author.Rules.{rules}
 use Rattle.line_sender.proofs.Sender.keep.Goals as goal
-
-pub returns-then-kept-lt16 : goal.returns-then-kept-lt16
-returns-then-kept-lt16 c =
-    keeps_behind c.args.self c.args.block.now c.put_in-blocks.result c.next_number-next.result
-    c.if-kept-lt16.true c.put_in-blocks.ensures c.next_number-next.ensures
 
 pub returns : goal.returns
 returns c =

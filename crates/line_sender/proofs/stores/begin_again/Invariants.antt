@@ -1,12 +1,9 @@
 -- `line_sender::stores::begin_again` meets its contract: the first i bytes are those of the answer, and the others as they
 -- were. Assumes nothing.
-use mathlib.Core.Path.{◌≡◌, refl, ap, ap₂, ◌∙◌}
-use mathlib.Core.List.{List, ◌∷◌, ◌++◌}
-use Prim.Native.Nat.{ℕ, ◌+◌, ◌-◌, ◌≤◌}
-use native.Mathlib.Omega.{arith}
-use lib.ListN.{length, take, drop, set, length-set, length-drop}
-use borrow.Author.Rules.{rules}
-use Rattle.laws.proofs.Lists.{put}
+use mathlib.Core.Path.{◌≡◌}
+use mathlib.Core.List.{◌∷◌, ◌++◌}
+use Prim.Native.Nat.{◌-◌, ◌≤◌}
+use lib.ListN.{length, take, drop}
 use Rattle.line_codes.specs.Codes.{syn}
 use Rattle.line_sender.proofs.stores.begin_again.Given as goal
 

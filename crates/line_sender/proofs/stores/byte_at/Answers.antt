@@ -1,6 +1,5 @@
 -- `line_sender::stores::byte_at` meets its contract. Assumes nothing.
 use native.Mathlib.Omega.{arith}
-use borrow.Author.Rules.{rules}
 use Rattle.line_sender.proofs.Arrays.{at_past}
 use Rattle.line_codes.specs.Codes.{syn}
 use Rattle.line_sender.proofs.stores.byte_at.Goals as goal

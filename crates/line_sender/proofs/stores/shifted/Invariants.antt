@@ -1,12 +1,8 @@
 -- `line_sender::stores::shifted` meets its contract: i bytes have moved down. Assumes nothing.
-use mathlib.Core.Path.{◌≡◌, refl, sym, ap, ap₂, ◌∙◌}
-use mathlib.Core.List.{List, ◌++◌}
-use Prim.Native.Nat.{ℕ, ◌+◌, ◌-◌, ◌≤◌}
-use native.Mathlib.Omega.{arith}
-use lib.ListN.{length, get_or, take, drop, set, length-drop}
-use lib.Seq.{get_or-drop, take_all}
-use borrow.Author.Rules.{rules}
-use Rattle.laws.proofs.Lists.{put}
+use mathlib.Core.Path.{◌≡◌}
+use mathlib.Core.List.{◌++◌}
+use Prim.Native.Nat.{◌-◌, ◌≤◌}
+use lib.ListN.{take, drop}
 use Rattle.line_sender.proofs.stores.shifted.Given as goal
 
 abbrev pub invariant-loop-i : goal.invariant-loop-i
