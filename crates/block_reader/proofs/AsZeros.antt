@@ -4,7 +4,7 @@ use mathlib.Core.List.{List, []}
 use mathlib.Core.Logic.{◌↔◌}
 use Prim.Native.Nat.{ℕ}
 use lib.Dec.{T}
-use lib.ListN.{length, replicate}
+use lib.ListN.{replicate}
 use Rattle.laws.proofs.Sums.{Sum, sum_one, sum_length, sum_nothing}
 use Rattle.block_validity.specs.Block.{valid, Valid}
 use Rattle.block_validity.specs.Changed.{flip, hits, Near, same, changed}

@@ -3,6 +3,7 @@
 // Pieces.antt, Claims.antt and Cuts.antt in crates/board_pieces/specs, and each is proved in the crate whose words it
 // speaks. specs/Example is one page in bytes.
 #![tactic(auto)]
+
 ghost use Rattle.std.specs.Prelude.{◌≡◌, Bool, true, false, cond, List, [], ◌∷◌, ◌++◌, map, ℕ, ◌≤◌, ◌<◌, length, replicate};
 ghost use Rattle.values.specs.Large.{Values};
 ghost use Rattle.links_wiring.specs.declared.Module.{Module};

@@ -9,9 +9,7 @@ use Rattle.screen_cursor.specs.Places.{at, On, on_screen, index_of}
 use Rattle.screen_cursor.proofs.Tested.{on_true, true_on, index_low}
 use Rattle.screen_cells.specs.Cells.{blank_of}
 use Rattle.screen_page.specs.declared.Screen.{Screen}
-use Rattle.screen_page.specs.declared.Read.{Read}
 use Rattle.screen_page.specs.declared.Read.TheVariants.{Broken as Unread, Off, There}
-use Rattle.screen_page.specs.declared.Cursor.{Cursor}
 use Rattle.screen_page.specs.declared.Cursor.TheVariants.{Broken as Lost, Hidden, Shown}
 use Rattle.screen_page.specs.Pages.{fresh_screen, cell_at}
 use Rattle.screen_page.specs.Ranges.{broken}

@@ -1,11 +1,9 @@
 -- The last character is changed by a written character alone. Assumes nothing.
 use mathlib.Core.Path.{◌≡◌, refl, sym, ap, ◌∙◌}
 use mathlib.Core.Bool.{Bool, true, false, cond}
-use Prim.Native.Nat.{ℕ, zero, suc, ◌-◌}
+use Prim.Native.Nat.{ℕ, zero, suc}
 use lib.Dec.{eqb}
 use Rattle.laws.proofs.Computed.{holds}
-use Rattle.screen_cursor.specs.declared.Place.{Place}
-use Rattle.screen_cursor.specs.Places.{at}
 use Rattle.screen_motion.specs.Moves.{down_of}
 use Rattle.screen_addresses.specs.declared.Address.{Address}
 use Rattle.screen_addresses.specs.declared.Address.TheVariants.{Nowhere, There}
@@ -22,7 +20,7 @@ use Rattle.screen_pen.specs.declared.Last.TheVariants.{Never, Was}
 use Rattle.screen_pen.specs.declared.Pen.{Pen}
 use Rattle.screen_pen.specs.Strokes.{after_times}
 use Rattle.screen_planning.specs.Changing.{with_here, with_place, with_sequence}
-use Rattle.screen_planning.specs.Obeying.{again, entering, keeping, gone, obeyed}
+use Rattle.screen_planning.specs.Obeying.{again, keeping, gone, obeyed}
 use Rattle.screen_planning.specs.Planning.{finished, after_order, unfinished, ordered, pen_after}
 use Rattle.screen_planning.specs.Lasts.{last_after}
 

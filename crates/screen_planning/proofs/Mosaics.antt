@@ -1,6 +1,5 @@
 -- While G1 is current, inverse is off, in the attributes in force and in those kept: every value leaves it so. Assumes
 -- nothing.
-use mathlib.Core.Path.{◌≡◌}
 use Prim.Native.Nat.{ℕ, zero, suc}
 use native.Mathlib.Omega.{arith}
 use lib.Dec.{eqb}
@@ -23,7 +22,7 @@ use Rattle.screen_pen.specs.declared.Last.TheVariants.{Never, Was}
 use Rattle.screen_pen.specs.declared.Pen.{Pen}
 use Rattle.screen_pen.specs.Pens.{fresh_pen}
 use Rattle.screen_pen.specs.Strokes.{after_times}
-use Rattle.screen_planning.specs.Obeying.{again, lowered, keeping, entering, gone, obeyed}
+use Rattle.screen_planning.specs.Obeying.{again, lowered, entering, gone, obeyed}
 use Rattle.screen_planning.specs.Planning.{finished, after_order, unfinished, ordered, pen_after}
 
 abbrev pub Uprights : Pen → Type 0

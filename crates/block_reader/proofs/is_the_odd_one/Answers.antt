@@ -1,5 +1,4 @@
 -- `block_reader::is_the_odd_one` meets its contract. Assumes nothing.
-use borrow.Author.Rules.{rules}
 use borrow.Author.Tests.{eq-eqb, ne_eqb}
 use Rattle.block_reader.proofs.is_the_odd_one.Goals as goal
 

@@ -1,17 +1,14 @@
 -- `block_reader::mend` meets its contract: each answer is right, and so it is the judged one. Assumes nothing.
 use mathlib.Core.Path.{◌≡◌, refl, sym, ap, ◌∙◌}
-use mathlib.Core.Logic.{⊎_elim}
 use mathlib.Core.List.{List}
 use Prim.Native.Nat.{ℕ, ◌%◌}
 use native.Mathlib.Nat.{mod-eq_of_lt}
 use native.Mathlib.Omega.{arith}
 use lib.Dec.{T}
-use lib.ListN.{length, get_or, take}
+use lib.ListN.{take}
 use lib.Seq.{length-take-le}
-use borrow.Author.Rules.{rules}
-use borrow.Author.Tests.{eqb-true, eqb-false, not-true, not-false}
 use Rattle.laws.proofs.Computed.{fails, holds}
-use Rattle.block_parity.specs.Parity.{all_even, odds}
+use Rattle.block_parity.specs.Parity.{all_even}
 use Rattle.block_validity.specs.Block.{remainder}
 use Rattle.block_validity.specs.Mending.{PointsTo}
 use Rattle.block_validity.proofs.Powers.{remainder_lt}

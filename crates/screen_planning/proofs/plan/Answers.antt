@@ -1,6 +1,5 @@
 -- `screen_planning::plan` meets its contract. Assumes nothing.
 use borrow.Author.Tests.{le-ltb, lt-ltb}
-use borrow.Author.Rules.{rules}
 use Rattle.screen_planning.proofs.plan.Goals as goal
 
 pub returns-then-value-gt127 : goal.returns-then-value-gt127

@@ -1,6 +1,5 @@
 -- `screen_page::Screen::cell` meets its contract. Assumes nothing.
-use mathlib.Core.Path.{◌≡◌, sym, ◌∙◌}
-use borrow.Author.Rules.{rules}
+use mathlib.Core.Path.{sym, ◌∙◌}
 use Rattle.screen_cursor.proofs.Tested.{true_on}
 use Rattle.screen_page.specs.Reading.{read}
 use Rattle.screen_page.proofs.Screen.cell.Goals as goal

@@ -1,5 +1,4 @@
 -- `screen_page::Screen::cursor` meets its contract. Assumes nothing.
-use borrow.Author.Rules.{rules}
 use Rattle.screen_page.specs.Reading.{pointed}
 use Rattle.screen_page.proofs.Screen.cursor.Goals as goal
 

@@ -1,7 +1,6 @@
 -- `screen_page::Screen::fresh` meets its contract. Assumes nothing.
 use mathlib.Core.Path.{ap₂}
 use lib.ListN.{replicate}
-use borrow.Author.Rules.{rules}
 use Rattle.screen_cells.specs.declared.Cell.{Cell}
 use Rattle.screen_pen.specs.declared.Pen.{Pen}
 use Rattle.screen_page.specs.declared.Screen.{Screen}

@@ -1,5 +1,4 @@
 -- `screen_page::Screen::is_broken` meets its contract. Assumes nothing.
-use borrow.Author.Rules.{rules}
 use Rattle.screen_page.specs.Ranges.{in_range, broken}
 use Rattle.screen_page.proofs.Screen.is_broken.Goals as goal
 

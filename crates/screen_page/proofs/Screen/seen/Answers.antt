@@ -3,7 +3,6 @@ use mathlib.Core.Path.{◌≡◌, ap, ◌∙◌}
 use Prim.Native.Nat.{ℕ}
 use native.Mathlib.Omega.{arith}
 use lib.ListN.{length, get_or}
-use borrow.Author.Rules.{rules}
 use Rattle.laws.proofs.Lists.{get_d_any, length_mapped}
 use Rattle.screen_cursor.proofs.Tested.{index_low}
 use Rattle.screen_cells.specs.Cells.{blank_of}

@@ -1,5 +1,4 @@
 -- `screen_planning::changing::go` meets its contract. Assumes nothing.
-use borrow.Author.Rules.{rules}
 use Rattle.screen_planning.specs.Obeying.{gone}
 use Rattle.screen_planning.proofs.changing.go.Goals as goal
 

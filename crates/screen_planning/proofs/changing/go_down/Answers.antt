@@ -1,6 +1,5 @@
 -- `screen_planning::changing::go_down` meets its contract. Assumes nothing.
 use borrow.Author.Tests.{eq-eqb, ne_eqb}
-use borrow.Author.Rules.{rules}
 use Rattle.screen_planning.proofs.changing.go_down.Goals as goal
 
 pub returns-then-pen-eq0 : goal.returns-then-pen-eq0

@@ -1,5 +1,4 @@
 -- `screen_planning::changing::start_at` meets its contract. Assumes nothing.
-use borrow.Author.Rules.{rules}
 use Rattle.screen_planning.proofs.changing.start_at.Goals as goal
 
 pub returns : goal.returns

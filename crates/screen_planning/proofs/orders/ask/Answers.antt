@@ -1,15 +1,10 @@
 -- `screen_planning::orders::ask` meets its contract. Assumes nothing.
 use mathlib.Core.Path.{◌≡◌, refl}
-use mathlib.Core.List.{List, [], ◌∷◌}
 use Prim.Native.Nat.{ℕ}
-use types.Run.{OneOf, miss}
-use denote.Enum.Declared.{tag_of}
-use borrow.Author.Rules.{rules}
 use Rattle.screen_sequences.specs.declared.Order.{Order}
 use Rattle.screen_sequences.specs.declared.Order.TheVariants.{Skip, Left, Right, Up, Down, First, Clear, Home}
 use Rattle.screen_sequences.specs.declared.Order.TheVariants.{ShiftOut, ShiftIn, Show, Hide, Pair, Go, Write}
 use Rattle.screen_sequences.specs.declared.Order.TheVariants.{Second, Again}
-use Rattle.screen_sequences.specs.contracts.Order.{the_type}
 use Rattle.screen_pen.specs.declared.Pen.{Pen}
 use Rattle.screen_planning.specs.declared.Asked.TheVariants.{Nothing}
 use Rattle.screen_planning.specs.Obeying.{obeyed}

@@ -1,6 +1,5 @@
 -- `screen_planning::orders::obey` meets its contract: pen and what is asked, each by itself. Assumes nothing.
 use Rattle.screen_planning.specs.Obeying.{obeyed}
-use borrow.Author.Rules.{rules}
 use Rattle.screen_planning.proofs.orders.obey.Goals as goal
 
 pub returns : goal.returns

@@ -1,5 +1,4 @@
 -- `screen_planning::orders::repeat` meets its contract. Assumes nothing.
-use borrow.Author.Rules.{rules}
 use Rattle.screen_planning.proofs.orders.repeat.Goals as goal
 
 pub returns-in-Was : goal.returns-in-Was
