@@ -22,7 +22,6 @@ use Rattle.links.specs.States.{in_range, connected_links}
 use Rattle.links.specs.Runs.{value, run, PassedOn}
 use Rattle.links.proofs.Ranges.{tested}
 use Rattle.links.proofs.Flow.{plain_goes}
-use Rattle.board_feeding.specs.declared.Fed.{Fed}
 use Rattle.board_feeding.specs.Feeding.{from_line, got, shares_of, fed}
 use Rattle.board_feeding.specs.Plain.{plain, all_plain, is_free, are_plain}
 

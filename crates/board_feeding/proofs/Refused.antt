@@ -1,9 +1,8 @@
 -- Broken links, and values above 127: nothing changes and nobody gets anything. Assumes nothing.
-use mathlib.Core.Path.{◌≡◌, refl, ap, ap₂, ◌∙◌}
+use mathlib.Core.Path.{◌≡◌, refl, ap, ◌∙◌}
 use mathlib.Core.Bool.{true, false}
 use mathlib.Core.List.{List, [], ◌∷◌, ◌++◌}
 use Prim.Native.Nat.{ℕ, ◌<◌}
-use lib.Dec.{ltb}
 use borrow.Author.Tests.{lt-ltb}
 use Rattle.links_wiring.specs.declared.Module.{Module}
 use Rattle.links_wiring.specs.declared.Module.TheVariants.{Screen, Keyboard, Modem, Socket}
@@ -15,10 +14,9 @@ use Rattle.links.specs.declared.Answer.{Answer}
 use Rattle.links.specs.declared.Outcome.{Outcome}
 use Rattle.links.specs.States.{in_range}
 use Rattle.links.specs.Calls.{refused}
-use Rattle.links.specs.Runs.{Call, value, obey, run}
+use Rattle.links.specs.Runs.{value, obey, run}
 use Rattle.links.proofs.Refusals.{broken, large}
-use Rattle.board_feeding.specs.declared.Fed.{Fed}
-use Rattle.board_feeding.specs.Feeding.{from_line, got, shares_of, nobody, fed}
+use Rattle.board_feeding.specs.Feeding.{from_line, got, nobody, fed}
 
 -- a value that the links refuse is left out
 module _ (l : Links) (v : ℕ) (a : Answer) (e : obey (value modem v) l ≡ refused l a) (vs : List ℕ) where

@@ -1,5 +1,4 @@
 -- `board_feeding::gather` meets its contract. Assumes nothing.
-use borrow.Author.Rules.{rules}
 use Rattle.board_feeding.proofs.gather.Goals as goal
 
 pub returns : goal.returns

@@ -1,9 +1,8 @@
 -- `board_feeding::are_plain` meets its contract. Assumes nothing.
-use mathlib.Core.Path.{◌≡◌, sym, ap, ap₂, ◌∙◌}
+use mathlib.Core.Path.{sym, ap, ap₂, ◌∙◌}
 use mathlib.Core.Bool.{Bool, ◌&&◌}
-use borrow.Author.Rules.{rules}
 use Rattle.links.specs.States.{in_range}
-use Rattle.board_feeding.specs.Plain.{all_plain, is_free, are_plain}
+use Rattle.board_feeding.specs.Plain.{all_plain, are_plain}
 use Rattle.board_feeding.proofs.plain.are_plain.Goals as goal
 
 pub returns-then-in_range : goal.returns-then-in_range

@@ -1,17 +1,7 @@
-use mathlib.Core.Path.{◌≡◌, refl, sym, ap, ap₂, ◌∙◌}
-use mathlib.Core.Bool.{Bool, cond}
-use mathlib.Core.List.{List, [], ◌++◌}
-use Prim.Native.Nat.{ℕ, zero, suc, ◌+◌, ◌-◌, ◌≤◌, ◌<◌, zero-le}
-use native.Mathlib.Omega.{arith}
-use lib.ListN.{length, get_or, take, drop, set, replicate, length-set}
-use lib.Seq.{length-take-le}
-use borrow.Author.Rules.{rules}
-use Rattle.laws.proofs.Lists.{put}
-use Rattle.board_feeding.specs.declared.Outlet.{Outlet}
-use Rattle.board_feeding.specs.Feeding.{outlet}
-use Rattle.board_feeding.proofs.Outlets.{drop_zeros}
-use Rattle.board_feeding.proofs.plain.outlet_of.Reads as reads
-use Rattle.board_feeding.proofs.plain.outlet_of.Lts as lts
+use mathlib.Core.Path.{◌≡◌}
+use mathlib.Core.List.{◌++◌}
+use Prim.Native.Nat.{◌-◌, ◌≤◌}
+use lib.ListN.{length, take, drop, replicate}
 use Rattle.board_feeding.proofs.plain.outlet_of.Given as goal
 
 abbrev pub invariant-loop-i : goal.invariant-loop-i

@@ -1,8 +1,5 @@
-use mathlib.Core.Path.{◌≡◌, sym, ◌∙◌}
-use lib.ListN.{take}
 use Rattle.board_feeding.proofs.Passed.{fed_all}
 use Rattle.board_feeding.specs.Feeding.{fed}
-use borrow.Author.Rules.{rules}
 use Rattle.board_feeding.proofs.plain.pass_all.Goals as goal
 
 -- src/lib.rt:152:1
