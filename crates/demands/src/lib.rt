@@ -7,6 +7,7 @@
 // accepts only functions that end and stay within the memory lent to them, and no public one asks anything of its
 // caller.
 #![tactic(auto)]
+
 pub mod bench_cards;
 pub mod demand_one;
 pub mod demand_three;

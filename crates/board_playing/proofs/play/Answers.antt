@@ -158,21 +158,21 @@ loop-i-preserved c =
     × (o.gathered ≤ 4021) in
     let now : Gathering j.screen j.state =
     elim j.branch [
-      then-state w ↦
-        subst⁻¹ (Gathering j.screen) w.state-is (
-          flushed l.invariant.2 thousand small j.screen (w.screen-is ∙ w.show-screen.ensures),
-          record {
-            front = l.invariant.1.front;
-            keyboard = l.invariant.1.keyboard;
-            modem = l.invariant.1.modem;
-            socket = l.invariant.1.socket;
-            requests = l.invariant.1.requests;
-          },
-          zero-le,
-        )
+      | then-state w ↦
+          subst⁻¹ (Gathering j.screen) w.state-is (
+            flushed l.invariant.2 thousand small j.screen (w.screen-is ∙ w.show-screen.ensures),
+            record {
+              front = l.invariant.1.front;
+              keyboard = l.invariant.1.keyboard;
+              modem = l.invariant.1.modem;
+              socket = l.invariant.1.socket;
+              requests = l.invariant.1.requests;
+            },
+            zero-le,
+          )
       | else-state w ↦
-        subst⁻¹ (λ (u : Page). Gathering u j.state) w.screen-is
-        (subst⁻¹ (Gathering l.screen) w.state-is (l.invariant.2, l.invariant.1, omega (arith, w.if-state.false)))
+          subst⁻¹ (λ (u : Page). Gathering u j.state) w.screen-is
+          (subst⁻¹ (Gathering l.screen) w.state-is (l.invariant.2, l.invariant.1, omega (arith, w.if-state.false)))
     ] in
     let o = j.state in
     let shown_now : List ℕ = got Screen o.links (from_line (take turn.stepped.passed turn.stepped.values)) in
