@@ -44,7 +44,7 @@ ghost use Rattle.board_pieces.specs.declared.Answer.TheVariants.{NoRoom, Broken 
 ghost use Rattle.board_pieces.specs.Noted.{noted, noted_of, noted_told, is_noted};
 ghost use Rattle.board_pieces.specs.Claims.{TakenWhole, NothingTaken, RoomFor};
 ghost use Rattle.board_pieces.specs.Cuts.{second_taken, InTwo};
-ghost use Rattle.board_demands.specs.Example.{arrived, wanted, shown};
+ghost use Rattle.board_demands.specs.Example.{arrived, wanted, white, shown};
 
 // In every run of a board in range each part goes its own way: the receiver hears the line bytes, switchings and
 // askings alone, the links are told the values that it passes on and those of keyboard, socket and host, in order, the
@@ -113,9 +113,7 @@ pub fn a_fresh_board_is_off_local_and_blank()
     ensures local { (statuses_of fresh_board.links.table ≡ 77 ∷ 66 ∷ 70 ∷ 74 ∷ [])
         × ((e : Ear) → unfinished fresh_board.links e ≡ Free)
         × (reaches fresh_board.links.table Modem Screen ≡ true) }
-    ensures blank { (fresh_board.screen.cells
-        ≡ replicate 1000
-        (record { character = record { set = 1; code = 32 }; ink = 7; ground = 0; flash = false; inverse = false }))
+    ensures blank { (fresh_board.screen.cells ≡ replicate 1000 (white 1 32))
         × (fresh_board.screen.pen.here.place.row ≡ 1) × (fresh_board.screen.pen.here.place.column ≡ 1)
         × (fresh_board.screen.pen.shown ≡ false) }
 {}

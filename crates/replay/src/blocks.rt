@@ -3,7 +3,7 @@
 // meanwhile, so what is sent last is sent only where length and checksum of both readings are the same.
 use crate::checksums;
 use crate::files::{Filled, complain, fail, fill, is_there, show_progress, unread};
-use crate::numbers::grown;
+use crate::sums::grown;
 use crate::texts::{Streams, put};
 use block_maker::Made;
 use lent::first;

@@ -2,7 +2,7 @@
 // itself: a note of each byte says what it was to the board's own receiver, and the book counts and tells.
 ghost use Rattle.std.specs.Prelude.{◌≤◌, length};
 
-use crate::numbers::{difference, further, grown, sum};
+use crate::sums::{difference, further, grown, sum};
 use crate::texts::{Gathered, Streams, byte_at, flush, gather, tell};
 use line_receiver::{Phase, Receiver};
 

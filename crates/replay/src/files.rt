@@ -1,7 +1,7 @@
 // Files read in portions, and what is told of them on standard error. A line that tells a fault begins with the
 // program's name, and one that says how far a file is with two dots. None begins with a file's name, so that no name
 // can make a fault look like the other.
-use crate::numbers::grown;
+use crate::sums::grown;
 use crate::texts::compose;
 use lent::{add, first};
 use std::fmt::InlineText;

@@ -1,7 +1,7 @@
 // The board that plays a record: fresh, its receiver switched on and its links connected. Everything that touches a
 // board is here.
 use crate::files::complain;
-use crate::numbers::grown;
+use crate::sums::grown;
 use board::Board;
 use board_pieces::{Answer, Passage};
 use line_receiver::Receiver;

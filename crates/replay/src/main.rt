@@ -11,7 +11,7 @@
 // blocks.rt      the command that makes blocks of a file of values
 // texts.rt       texts put together in lent memory
 // checksums.rt   a number that tells two readings of a file apart
-// numbers.rt     sums and differences that stay within their type
+// sums.rt        sums and differences that stay within their type
 #![tactic(auto)]
 
 mod blocks;
@@ -20,9 +20,9 @@ mod characters;
 mod checksums;
 mod files;
 mod hut;
-mod numbers;
 mod records;
 mod rows;
+mod sums;
 mod texts;
 
 use files::{complain, fail};

@@ -2,8 +2,8 @@
 use crate::book::{Book, tell_totals};
 use crate::files::{complain, fill, is_there, show_progress, unread};
 use crate::hut::{Play, ROOM};
-use crate::numbers::difference;
 use crate::rows::{write_cursor, write_rows};
+use crate::sums::difference;
 use crate::texts::Streams;
 use crate::{book, hut};
 use lent::first;

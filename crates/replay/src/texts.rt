@@ -1,6 +1,6 @@
 // Texts put together in lent memory, which has room for the longest: what does not fit is left out.
 use crate::files::fail;
-use crate::numbers::further;
+use crate::sums::further;
 use lent::{add, first};
 use std::fmt::InlineText;
 use std::io::{Stderr, Stdout};
