@@ -14,17 +14,9 @@ returns-then-code-lt32 c = simp (lt-leb _ _ c.if-code-lt32.true, le-leb _ _ c.if
 pub returns-then-code-gt127 : goal.returns-then-code-gt127
 unfolding good_character
 returns-then-code-gt127 c =
-    simp (
-      lt-leb _ _ c.if-code-gt127.true,
-      le-leb _ _ c.if-code-lt32.false,
-      le-leb _ _ c.if-set-gt2.false,
-    )
+    simp (lt-leb _ _ c.if-code-gt127.true, le-leb _ _ c.if-code-lt32.false, le-leb _ _ c.if-set-gt2.false)
 
 pub returns : goal.returns
 unfolding good_character
 returns c =
-    simp (
-      le-leb _ _ c.if-code-gt127.false,
-      le-leb _ _ c.if-code-lt32.false,
-      le-leb _ _ c.if-set-gt2.false,
-    )
+    simp (le-leb _ _ c.if-code-gt127.false, le-leb _ _ c.if-code-lt32.false, le-leb _ _ c.if-set-gt2.false)
