@@ -54,15 +54,19 @@ pub behind_twice : (out : List ℕ) (at : ℕ) (a b : List ℕ)
     → behind (written out at a) (behind out at a) b ≡ behind out at (a ++ b)
 behind_twice out at a b = simp (length_written, length-append) (omega arith)
 
--- as many are written as fit
-pub so_many : (out : List ℕ) (at : ℕ) (vs : List ℕ) (n : ℕ) → min (length vs) (length out - at) ≤ n
-    → written out at (take n vs) ≡ written out at vs
-so_many [] at vs n h = refl
-so_many (o ∷ out) zero [] zero h = refl
-so_many (o ∷ out) zero [] (suc n) h = refl
-so_many (o ∷ out) zero (v ∷ vs) zero h = absurd (omega (arith, h))
-so_many (o ∷ out) zero (v ∷ vs) (suc n) h = ap (λ (r : List ℕ). v ∷ r) (so_many out zero vs n (omega (arith, h)))
-so_many (o ∷ out) (suc at) vs n h = ap (λ (r : List ℕ). o ∷ r) (so_many out at vs n (omega (arith, h)))
+-- as many are put there as fit
+pub put_over : (out : List ℕ) (at : ℕ) (vs : List ℕ) (n : ℕ) → at ≤ length out → n ≡ min (length vs) (length out - at)
+    → take at out ++ (take n vs ++ drop n (drop at out)) ≡ written out at vs
+put_over [] zero vs zero h e = refl
+put_over [] zero vs (suc n) h e = absurd (omega (arith, e))
+put_over [] (suc at) vs n h e = absurd (omega (arith, h))
+put_over (o ∷ out) zero [] zero h e = refl
+put_over (o ∷ out) zero [] (suc n) h e = absurd (omega (arith, e))
+put_over (o ∷ out) zero (v ∷ vs) zero h e = absurd (omega (arith, e))
+put_over (o ∷ out) zero (v ∷ vs) (suc n) h e =
+    ap (λ (r : List ℕ). v ∷ r) (put_over out zero vs n (omega arith) (omega (arith, e)))
+put_over (o ∷ out) (suc at) vs n h e =
+    ap (λ (r : List ℕ). o ∷ r) (put_over out at vs n (omega (arith, h)) (omega (arith, e)))
 
 -- ---- where all of them fit
 

@@ -9,43 +9,21 @@ ghost use Rattle.lent.specs.Memory.{same, written, behind};
 pub fn first(s: &[u8], n: usize) -> &[u8]
     ensures { result.now ≡ take n s.now }
 {
-    if n < s.len() {
-        return &s[..n];
-    }
-    s
+    &s[..n.min(s.len())]
 }
 
 // The bytes past the first, or none where it has no more.
 pub fn past(s: &[u8], n: usize) -> &[u8]
     ensures { result.now ≡ drop n s.now }
 {
-    if n < s.len() {
-        return &s[n..];
-    }
-    &s[s.len()..]
+    &s[n.min(s.len())..]
 }
 
 // Whether two hold the same bytes.
 pub fn is(s: &[u8], word: &[u8]) -> bool
     ensures { result ≡ same s.now word.now }
 {
-    if s.len() != word.len() {
-        return false;
-    }
-    let mut i: usize = 0;
-    while i < s.len() {
-        if s[i] != word[i] {
-            return false;
-        }
-        i += 1;
-    }
-    true
-}
-
-fn least(a: usize, b: usize) -> usize
-    ensures { result ≡ min a b }
-{
-    if a < b { a } else { b }
+    s == word
 }
 
 // Adds what fits of some bytes from a place on: the place behind them.
@@ -56,11 +34,7 @@ pub fn add(bytes: &[u8], out: &mut [u8], at: usize) -> usize
     if out.len() <= at {
         return at;
     }
-    let fit = least(bytes.len(), out.len() - at);
-    let mut i: usize = 0;
-    while i < fit {
-        out[at + i] = bytes[i];
-        i += 1;
-    }
+    let fit = bytes.len().min(out.len() - at);
+    out[at..at + fit].copy_from_slice(&bytes[..fit]);
     at + fit
 }

@@ -2,37 +2,15 @@
 use mathlib.Core.Path.{◌≡◌, refl, sym, ap, ◌∙◌}
 use mathlib.Core.Bool.{Bool, true, false, cond}
 use mathlib.Core.List.{List, [], ◌∷◌, ◌++◌}
-use Prim.Native.Nat.{ℕ, zero, suc, ◌+◌, ◌≤◌, ◌<◌}
-use native.Mathlib.Nat.{add-suc, suc-add, add-zero, zero-lt-suc, le_of_suc-le-suc, not-suc-le-zero}
-use native.Mathlib.Numerals.{add-one}
+use Prim.Native.Nat.{ℕ, zero, suc, ◌≤◌, ◌<◌, zero-le}
+use native.Mathlib.Nat.{zero-lt-suc, le_of_suc-le-suc, not-suc-le-zero}
 use native.Mathlib.Omega.{arith}
 use lib.Dec.{ltb}
-use lib.ListN.{length, get_or, drop, drop_of_length-le}
-use lib.Seq.{drop-cons}
+use lib.ListN.{length, get_or}
 use borrow.Author.Tests.{ltb-true, lt-ltb, le-ltb}
+use Rattle.std.specs.Prelude.{Option, Some, None, MatchOption, unwrap_or}
+use Rattle.std.specs.List.{AllWithin, HoldsAt}
 use Rattle.values.specs.Large.{Values, first_large}
-
--- one value passed
-pub large_more : (vs : List ℕ) (i : ℕ) → i < length vs → get_or vs i 0 < 128
-    → i + first_large (drop i vs) ≡ (i + 1) + first_large (drop (i + 1) vs)
-unfolding first_large
-large_more vs i h l =
-    ap (λ (x : List ℕ). i + first_large x) (drop-cons vs i 0 h)
-    ∙ ap (λ (t : Bool). i + cond t (suc (first_large (drop (suc i) vs))) 0) (lt-ltb (get_or vs i 0) 128 l)
-    ∙ add-suc i (first_large (drop (suc i) vs)) ∙ sym (suc-add i (first_large (drop (suc i) vs)))
-    ∙ ap (λ (n : ℕ). n + first_large (drop n vs)) (sym (add-one i))
-
--- one that is too large
-pub large_here : (vs : List ℕ) (i : ℕ) → i < length vs → 128 ≤ get_or vs i 0 → i + first_large (drop i vs) ≡ i
-unfolding first_large
-large_here vs i h l =
-    ap (λ (x : List ℕ). i + first_large x) (drop-cons vs i 0 h)
-    ∙ ap (λ (t : Bool). i + cond t (suc (first_large (drop (suc i) vs))) 0) (le-ltb (get_or vs i 0) 128 l) ∙ add-zero i
-
--- none left
-pub large_end : (vs : List ℕ) (i : ℕ) → length vs ≤ i → i + first_large (drop i vs) ≡ i
-unfolding first_large
-large_end vs i h = ap (λ (x : List ℕ). i + first_large x) (drop_of_length-le vs {i = i} h) ∙ add-zero i
 
 -- ---- none is too large exactly when every value is 0 to 127
 
@@ -64,6 +42,14 @@ lowest (v ∷ vs) zero h l s = ap (λ (t : Bool). cond t (suc (first_large vs)) 
 lowest (v ∷ vs) (suc p) h l s =
     ap (λ (t : Bool). cond t (suc (first_large vs)) 0) (lt-ltb v 128 (s 0 (zero-lt-suc p)))
     ∙ ap suc (lowest vs p (le_of_suc-le-suc h) l (λ i k. s (suc i) (omega (arith, k))))
+
+-- what a search for the first value above 127 finds
+pub found : (vs : List ℕ) (r : Option ℕ)
+    → MatchOption r (AllWithin (λ (v : ℕ). v < 128) vs 0 (length vs))
+    (λ p. (p < length vs) × HoldsAt (λ (v : ℕ). 127 < v) vs p × AllWithin (λ (v : ℕ). v < 128) vs 0 p)
+    → unwrap_or r (length vs) ≡ first_large vs
+found vs None s = sym (none_large vs (λ i l. s i 0 (zero-le) l))
+found vs (Some p) f = sym (lowest vs p f.0 (f.1 0) (λ i l. f.2 i 0 (zero-le) l))
 
 -- ---- values one by one
 

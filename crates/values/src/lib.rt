@@ -7,19 +7,13 @@
 ghost use Rattle.std.specs.Prelude.{◌≡◌};
 ghost use Rattle.values.specs.Large.{first_large};
 
-// The lowest place of a value above 127, counted from 0, or the number of values. `left` counts those not looked at
-// yet.
+// The lowest place of a value above 127, counted from 0, or the number of values. A number and no Option:
+// `the_lowest_place_is_named` of `block_demands` gives their number where there is none, by its clause `none`.
 pub fn first_large(values: &[u8]) -> usize
     ensures { result ≡ first_large values.now }
 {
-    let n = values.len();
-    let mut left = n;
-    while 0 < left {
-        let at = n - left;
-        if 127 < values[at] {
-            return at;
-        }
-        left -= 1;
-    }
-    n
+    values
+        .iter()
+        .position(|value| 127 < *value)
+        .unwrap_or(values.len())
 }
