@@ -5,42 +5,29 @@
 #![tactic(auto)]
 
 ghost use Rattle.std.specs.Prelude.{◌≡◌};
-ghost use Rattle.block_reader.specs.Judging.{judged, handed, bit_named};
+ghost use Rattle.block_reader.specs.Judging.{told, judged, handed};
 
 pub use block_maker::{make, values};
 pub use block_parity::with_parity;
-use block_reader::Verdict;
-pub use block_reader::mend;
+pub use block_reader::{Verdict, mend};
 
-// A block judged, of any length: the first fifteen bytes of the lent block itself, or an empty part. `said` gets
-// the number, `bit` the bit mended or 255 for none.
-pub fn judge<'a>(block: &'a mut [u8], said: &mut u8, bit: &mut u8) -> &'a mut [u8]
-    ensures { (said.new ≡ (judged block.old).number)
-        × (bit.new ≡ bit_named (judged block.old))
-        × (result.now ≡ handed block.old)
-        × (result.ref_ptr ≡ block.entry.ref_ptr) }
+// A block judged: the verdict, and the first fifteen bytes of the lent block itself, or an empty part of it.
+#[derive(Drop)]
+pub struct Judged<'a> {
+    pub verdict: Verdict,
+    pub part: &'a mut [u8],
+}
+
+// A block judged, of any length.
+pub fn judge<'a>(block: &'a mut [u8]) -> Judged<'a>
+    ensures { (told result.verdict ≡ judged block.old)
+        × (result.part.now ≡ handed block.old)
+        × (result.part.ref_ptr ≡ block.entry.ref_ptr) }
 {
-    let v = block_reader::mend(block);
-    match v {
-        Verdict::Clean => {
-            *said = 0;
-            *bit = 255;
-            &mut block[..15]
-        }
-        Verdict::Mended(b) => {
-            *said = 0;
-            *bit = b;
-            &mut block[..15]
-        }
-        Verdict::Repeat => {
-            *said = 3;
-            *bit = 255;
-            &mut block[..0]
-        }
-        Verdict::WrongLength => {
-            *said = 1;
-            *bit = 255;
-            &mut block[..0]
-        }
-    }
+    let verdict = mend(block);
+    let part = match verdict {
+        Verdict::Clean | Verdict::Mended(_) => &mut block[..15],
+        Verdict::Repeat | Verdict::WrongLength => &mut block[..0],
+    };
+    Judged { verdict, part }
 }

@@ -1,10 +1,10 @@
 // Demand 1: any bytes are taken in a finite run; whatever is wrong has its number and leaves lent memory as the
 // papers say. That every call ends, stays within the memory lent to it and asks nothing of its caller is the
 // checker's own verdict: every function is proved total, and no public one has a `requires`.
-ghost use Rattle.std.specs.Prelude.{◌≡◌, List, [], ◌∷◌, ◌⊎◌, ℕ, ◌≤◌, ◌<◌, length, get_or};
+ghost use Rattle.std.specs.Prelude.{◌≡◌, Result, List, [], ◌∷◌, ◌⊎◌, ℕ, ◌≤◌, ◌<◌, length, get_or};
 ghost use Rattle.numbers.specs.Numbers.{Conditions, number_of, GivenExactly};
 ghost use Rattle.values.specs.Large.{Values, first_large};
-ghost use Rattle.block_maker.specs.declared.Made.{Made};
+ghost use Rattle.block_maker.specs.declared.Unmade.{Unmade};
 ghost use Rattle.block_maker.specs.Making.{make_number, make_told, make_left, told as told_made};
 ghost use Rattle.block_reader.specs.declared.Verdict.{Verdict};
 ghost use Rattle.block_reader.specs.declared.Verdict.TheVariants.{Mended};
@@ -45,7 +45,7 @@ pub fn refusals_leave_what_was_lent()
 // Two answers that tell the same number, and name the same place or bit, are the same: each promise is met by one
 // outcome only. The bit that the judge names is the one mended, and 255 stands for none.
 pub fn an_answer_is_told_in_one_way()
-    ensures making { (m n : Made) → told_made m ≡ told_made n → m ≡ n }
+    ensures making { (m n : Result (Unit {0}) Unmade) → told_made m ≡ told_made n → m ≡ n }
     ensures judging { (v w : Verdict) → told_verdict v ≡ told_verdict w → v ≡ w }
     ensures bit { (B : List ℕ) → ((k : ℕ) → verdict B ≡ Mended k → bit_named (judged B) ≡ k)
         × (((k : ℕ) → verdict B ≡ Mended k → ⊥) → bit_named (judged B) ≡ 255) }

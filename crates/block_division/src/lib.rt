@@ -19,13 +19,7 @@ use remainders::REMAINDERS;
 fn mirror(c: u8) -> u8
     ensures { result ≡ mirrored c }
 {
-    (c & 1) << 6
-        | (c & 2) << 4
-        | (c & 4) << 2
-        | c & 8
-        | (c & 16) >> 2
-        | (c & 32) >> 4
-        | (c & 64) >> 6
+    c.reverse_bits() >> 1
 }
 
 // The check bits of some bytes: what their polynomial times x^7 leaves. Weight 1 of a byte has its highest power, so
@@ -36,10 +30,8 @@ pub fn check_bits(bytes: &[u8]) -> u8
 {
     let table = REMAINDERS;
     let mut m: u8 = 0;
-    let mut i: usize = 0;
-    while i < bytes.len() {
-        m = table[(m ^ bytes[i]) as usize];
-        i += 1;
+    for byte in bytes {
+        m = table[usize::from(m ^ *byte)];
     }
     mirror(m)
 }

@@ -9,8 +9,9 @@ use lib.ListN.{length, drop}
 use borrow.Author.Tests.{lt-ltb, le-ltb, eq-eqb, ne_eqb}
 use Rattle.numbers.specs.Numbers.{Told}
 use Rattle.values.specs.Large.{first_large}
-use Rattle.block_maker.specs.declared.Made.{Made}
-use Rattle.block_maker.specs.declared.Made.TheVariants.{Taken, WrongLength, TooLarge, NoRoom}
+use Rattle.std.specs.Prelude.{Result, Ok, Err}
+use Rattle.block_maker.specs.declared.Unmade.{Unmade}
+use Rattle.block_maker.specs.declared.Unmade.TheVariants.{WrongLength, TooLarge, NoRoom}
 use Rattle.block_maker.specs.Making.{block_of, told, make_number, make_told, make_left}
 
 module _ (vs O : List ℕ) where
@@ -44,24 +45,24 @@ module _ (vs O : List ℕ) where
   pub names_none : (n : ℕ) → make_number vs O ≡ n → (n ≡ 2 → ⊥) → record { number = n; named = [] } ≡ make_told vs O
   names_none n e ne = simp (e, ne_eqb n 2 ne)
 
-  pub names_place : (p : ℕ) → p ≡ first_large vs → make_number vs O ≡ 2 → told (TooLarge p) ≡ make_told vs O
+  pub names_place : (p : ℕ) → p ≡ first_large vs → make_number vs O ≡ 2 → told (Err (TooLarge p)) ≡ make_told vs O
   names_place p q e = simp (q, e)
 
 -- ---- two answers that tell the same are the same: only one fits the promise
 
-by_place : List ℕ → Made
-by_place [] = Taken
-by_place (p ∷ ps) = TooLarge p
+by_place : List ℕ → Result (Unit {0}) Unmade
+by_place [] = Ok tt
+by_place (p ∷ ps) = Err (TooLarge p)
 
-retold : Told → Made
-retold t = cond (eqb t.number 1) WrongLength (cond (eqb t.number 4) NoRoom (by_place t.named))
+retold : Told → Result (Unit {0}) Unmade
+retold t = cond (eqb t.number 1) (Err WrongLength) (cond (eqb t.number 4) (Err NoRoom) (by_place t.named))
 
-retold_told : (m : Made) → retold (told m) ≡ m
+retold_told : (m : Result (Unit {0}) Unmade) → retold (told m) ≡ m
 unfolding retold by_place
-retold_told Taken = refl
-retold_told WrongLength = refl
-retold_told (TooLarge p) = refl
-retold_told NoRoom = refl
+retold_told (Ok made) = refl
+retold_told (Err WrongLength) = refl
+retold_told (Err (TooLarge p)) = refl
+retold_told (Err NoRoom) = refl
 
-pub told_one : (m n : Made) → told m ≡ told n → m ≡ n
+pub told_one : (m n : Result (Unit {0}) Unmade) → told m ≡ told n → m ≡ n
 told_one m n e = sym (retold_told m) ∙ ap retold e ∙ retold_told n

@@ -1,12 +1,12 @@
 -- What the maker tells and leaves, for any values and any output (01, "The block", "Numbers given"). Assumes
 -- nothing.
-use Rattle.std.specs.Prelude.{false, cond, ◌||◌, List, [], ◌∷◌, ◌++◌, map, ℕ, ◌-◌, ◌%◌, eqb, ltb, length, take, drop, replicate}
+use Rattle.std.specs.Prelude.{Result, Ok, Err, false, cond, ◌||◌, List, [], ◌∷◌, ◌++◌, map, ℕ, ◌-◌, ◌%◌, eqb, ltb, length, take, drop, replicate}
 use Rattle.numbers.specs.Numbers.{Conditions, number_of, Told}
 use Rattle.values.specs.Large.{first_large}
 use Rattle.block_division.specs.Division.{check_bits}
 use Rattle.block_parity.specs.Parity.{with_parity}
-use Rattle.block_maker.specs.declared.Made.{Made}
-use Rattle.block_maker.specs.declared.Made.TheVariants.{Taken, WrongLength, TooLarge, NoRoom}
+use Rattle.block_maker.specs.declared.Unmade.{Unmade}
+use Rattle.block_maker.specs.declared.Unmade.TheVariants.{WrongLength, TooLarge, NoRoom}
 
 -- "The maker takes 1 to 15 values .., fills up with NUL, and adds parity": the fifteen useful bytes
 unfoldable pub useful : List ℕ → List ℕ
@@ -49,8 +49,8 @@ abbrev pub make_left : List ℕ → List ℕ → List ℕ
 make_left vs O = cond (eqb (make_number vs O) 0) (block_of vs ++ drop 17 O) O
 
 -- what each answer of the code tells
-abbrev pub told : Made → Told
-told Taken = record { number = 0; named = [] }
-told WrongLength = record { number = 1; named = [] }
-told (TooLarge place) = record { number = 2; named = place ∷ [] }
-told NoRoom = record { number = 4; named = [] }
+abbrev pub told : Result (Unit {0}) Unmade → Told
+told (Ok made) = record { number = 0; named = [] }
+told (Err WrongLength) = record { number = 1; named = [] }
+told (Err (TooLarge place)) = record { number = 2; named = place ∷ [] }
+told (Err NoRoom) = record { number = 4; named = [] }

@@ -7,12 +7,11 @@
 #![tactic(auto)]
 
 ghost use Rattle.std.specs.Prelude.{◌≤◌, ◌≡◌, ◌++◌, length, get_or, take, drop};
-ghost use Rattle.block_maker.specs.Making.{useful, sealed, told, make_told, make_left};
-ghost use Rattle.block_maker.specs.Making.{values_of};
+ghost use Rattle.block_maker.specs.Making.{useful, sealed, told, make_told, make_left, values_of};
 
+// Why there is no block.
 #[derive(Clone, Copy)]
-pub enum Made {
-    Taken,
+pub enum Unmade {
     WrongLength,
     // The lowest place of a value above 127, counted from 0.
     TooLarge(usize),
@@ -30,15 +29,13 @@ fn useful_at(values: &[u8], i: usize) -> u8
     }
 }
 
-// The fifteen useful bytes.
+// The fifteen useful bytes. By the place: there is one at each, also past the values, where a `zip` with the values ends.
 fn fill(values: &[u8], out: &mut [u8])
     requires { (length values.now ≤ 15) × (17 ≤ length out.old) }
     ensures { out.new ≡ useful values.now ++ drop 15 out.old }
 {
-    let mut i: usize = 0;
-    while i < 15 {
+    for i in 0..15 {
         out[i] = useful_at(values, i);
-        i += 1;
     }
 }
 
@@ -54,38 +51,34 @@ fn seal(out: &mut [u8])
 
 // The block of 1 to 15 values of 0 to 127, in the first seventeen bytes of the output and no others; or why there
 // is none.
-pub fn make(values: &[u8], out: &mut [u8]) -> Made
+pub fn make(values: &[u8], out: &mut [u8]) -> Result<(), Unmade>
     ensures { (told result ≡ make_told values.now out.old)
         × (out.new ≡ make_left values.now out.old) }
 {
     let n = values.len();
-    if n == 0 {
-        return Made::WrongLength;
-    }
-    if 15 < n {
-        return Made::WrongLength;
+    if n == 0 || 15 < n {
+        return Err(Unmade::WrongLength);
     }
     let at = values::first_large(values);
     if at < n {
-        return Made::TooLarge(at);
+        return Err(Unmade::TooLarge(at));
     }
     if out.len() < 17 {
-        return Made::NoRoom;
+        return Err(Unmade::NoRoom);
     }
     fill(values, out);
     seal(out);
-    Made::Taken
+    Ok(())
 }
 
-// The fifteen values of a block: its useful bytes without parity.
+// The fifteen values of a block: its useful bytes without parity. A loop: `map` over the fifteen, taken by the pattern
+// `[useful @ .., _, _]`, did not close, as the language makes no proof of such a pattern yet.
 pub fn values(bytes: [u8; 17]) -> [u8; 15]
     ensures { result ≡ values_of bytes }
 {
     let mut values = [0u8; 15];
-    let mut place: usize = 0;
-    while place < 15 {
+    for place in 0..15 {
         values[place] = bytes[place] % 128;
-        place += 1;
     }
     values
 }

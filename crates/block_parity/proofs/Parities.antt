@@ -1,16 +1,15 @@
 -- Laws of parity: it adds up like the bits do, a value with parity is even, and only its seven low bits count.
 -- Assumes nothing.
 use mathlib.Core.Path.{◌≡◌, refl, sym, ap, ap₂, ◌∙◌}
-use mathlib.Core.Bool.{Bool, true, false, cond, ◌&&◌}
+use mathlib.Core.Bool.{Bool, true, false, cond, not, ◌&&◌}
 use mathlib.Core.List.{List, [], ◌∷◌, ◌++◌}
-use Prim.Native.Nat.{ℕ, zero, suc, ◌+◌, ◌*◌, ◌/◌, ◌%◌, ◌≤◌, ◌<◌}
+use Prim.Native.Nat.{ℕ, zero, suc, ◌+◌, ◌*◌, ◌/◌, ◌%◌, ◌<◌}
 use native.Mathlib.Nat.{add-mod, mod-lt, zero-lt-suc}
-use native.Mathlib.Numerals.{add-one}
 use native.Mathlib.Omega.{arith}
-use lib.ListN.{length, get_or, drop, drop_of_length-le}
-use lib.Seq.{drop-cons}
 use lib.Dec.{T, eqb, eqb→eq}
 use lib.Bits.{bit_xor}
+use Rattle.std.specs.List.{fold, count_by}
+use Rattle.std.proofs.lemmas.List.Recursion.{is_count_by}
 use Rattle.laws.proofs.Computed.{below, at, Equal, equal_at, and_left, and_right}
 use Rattle.laws.proofs.Xor.{digit_xor, digit_sum}
 use Rattle.laws.proofs.Sums.{Sum, none, more}
@@ -140,35 +139,30 @@ parity_back b h e =
     eqb→eq (with_parity (b % 128)) b
     (rw e at (at whole 256 all_whole b h))
 
--- ---- what one turn of a loop does
+-- ---- over some bytes, as std's words have it
 
--- one byte seen
-pub evens_turn : (B : List ℕ) (i : ℕ) {t : Bool} → i < length B → even (get_or B i 0) ≡ t
-    → all_even (drop i B) ≡ t && all_even (drop (i + 1) B)
+-- each is looked at, whatever those before it are
+folded : (t : Bool) (B : List ℕ) → fold (λ (all : Bool) (b : ℕ). even b && all) t B ≡ all_even B && t
 unfolding all_even
-evens_turn B i h e =
-    ap all_even (drop-cons B i 0 h) ∙ ap (λ (n : ℕ). all_even (get_or B i 0 ∷ drop n B)) (sym (add-one i))
-    ∙ ap (λ (t : Bool). t && all_even (drop (i + 1) B)) e
-
-pub evens_done : (B : List ℕ) (i : ℕ) → length B ≤ i → all_even (drop i B) ≡ true
-unfolding all_even
-evens_done B i h = ap all_even (drop_of_length-le B {i = i} h)
-
--- one byte passed, of either parity
-pub odds_turn : (B : List ℕ) (i : ℕ) {t : Bool} → i < length B → even (get_or B i 0) ≡ t
-    → odds (drop i B) ≡ cond t 0 1 + odds (drop (i + 1) B)
-unfolding odds
-odds_turn B i h e =
-    ap odds (drop-cons B i 0 h) ∙ ap (λ (n : ℕ). odds (get_or B i 0 ∷ drop n B)) (sym (add-one i))
-    ∙ go (even (get_or B i 0)) e
+folded t [] = refl
+folded t (b ∷ B) = folded (even b && t) B ∙ moved (even b) (all_even B) t
   where
-    m : ℕ
-    m = odds (drop (i + 1) B)
+    moved : (x y z : Bool) → y && (x && z) ≡ (x && y) && z
+    moved true y z = refl
+    moved false true z = refl
+    moved false false z = refl
 
-    go : (u : Bool) {t : Bool} → u ≡ t → cond u m (suc m) ≡ cond t 0 1 + m
-    go true e = rw (sym e) (omega arith)
-    go false e = rw (sym e) (omega arith)
+pub all_folded : (B : List ℕ) → fold (λ (all : Bool) (b : ℕ). even b && all) true B ≡ all_even B
+all_folded B = folded true B ∙ always (all_even B)
+  where
+    always : (t : Bool) → t && true ≡ t
+    always true = refl
+    always false = refl
 
-pub odds_done : (B : List ℕ) (i : ℕ) → length B ≤ i → odds (drop i B) ≡ 0
+pub counted : (B : List ℕ) → odds B ≡ count_by (λ (b : ℕ). not (even b)) B
 unfolding odds
-odds_done B i h = ap odds (drop_of_length-le B {i = i} h)
+counted = is_count_by odds (λ (b : ℕ). not (even b)) refl (λ b B. other (even b) (odds B))
+  where
+    other : (t : Bool) (n : ℕ) → cond t n (suc n) ≡ cond (not t) (1 + n) n
+    other true n = refl
+    other false n = omega arith

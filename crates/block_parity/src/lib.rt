@@ -22,28 +22,14 @@ pub fn is_even(byte: u8) -> bool
 pub fn are_even(bytes: &[u8]) -> bool
     ensures { result ≡ all_even bytes.now }
 {
-    let mut all = true;
-    let mut i: usize = 0;
-    while i < bytes.len() {
-        all = is_even(bytes[i]) && all;
-        i += 1;
-    }
-    all
+    bytes.iter().fold(true, |all, byte| is_even(*byte) && all)
 }
 
 // How many of some bytes have an odd number of ones.
 pub fn odd_bytes(bytes: &[u8]) -> usize
     ensures { result ≡ odds bytes.now }
 {
-    let mut n: usize = 0;
-    let mut i: usize = 0;
-    while i < bytes.len() {
-        if !is_even(bytes[i]) {
-            n += 1;
-        }
-        i += 1;
-    }
-    n
+    bytes.iter().filter(|byte| !is_even(**byte)).count()
 }
 
 // A value with parity; of a byte above 127 the seven low bits count.

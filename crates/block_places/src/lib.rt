@@ -1,8 +1,9 @@
 // The table from a remainder to the bit that it points to (001, section 5-3-4): the one of the first 128 that alone
-// leaves it. Its rule is proved once, over the whole table (proofs/Pointed).
+// leaves it. Its rule (specs/Places) is shown once, over the whole table (proofs/places).
 #![tactic(auto)]
 
 ghost use Rattle.std.specs.Prelude.{◌%◌};
+ghost use Rattle.block_places.specs.Places.{Pointing};
 ghost use Rattle.block_validity.specs.Mending.{PointsTo};
 
 const PLACES: [u8; 128] = [
@@ -14,10 +15,17 @@ const PLACES: [u8; 128] = [
     106, 52, 78, 14, 36, 26, 30, 29, 54, 28, 73, 53, 15, 27,
 ];
 
+// The table, of which its rule is known.
+fn places() -> [u8; 128]
+    ensures { Pointing result }
+{
+    PLACES
+}
+
 // The bit that a remainder points to; of a byte above 127 the seven low bits count. Zero points to the parity bit
 // of byte 16: it is no code bit, so that alone it leaves nothing.
 pub fn place(r: u8) -> u8
     ensures { PointsTo (r % 128) result }
 {
-    PLACES[(r % 128) as usize]
+    places()[(r % 128) as usize]
 }

@@ -11,6 +11,7 @@ ghost use Rattle.std.specs.Prelude.{◌≡◌};
 ghost use Rattle.block_reader.specs.Judging.{judged, left, told};
 ghost use Rattle.block_reader.specs.Quick.{the_odd_one};
 
+// No Result: 01 tells four verdicts apart, of which two are taken, and the counts and the notes have a place for each.
 #[derive(Clone, Copy)]
 pub enum Verdict {
     Clean,
@@ -24,10 +25,7 @@ pub enum Verdict {
 fn is_the_odd_one(odd: usize, byte: u8) -> bool
     ensures { result ≡ the_odd_one odd byte }
 {
-    if odd != 1 {
-        return false;
-    }
-    !block_parity::is_even(byte)
+    odd == 1 && !block_parity::is_even(byte)
 }
 
 // A block judged in place, of any length: the verdict, and the block as it is left. One changed bit turns the

@@ -13,15 +13,13 @@ ghost use Rattle.std.specs.Prelude.{◌≡◌};
 ghost use Rattle.block_validity.specs.Block.{remainder as remainder_of};
 ghost use Rattle.block_validity.specs.Changed.{flip as flipped};
 
-const WEIGHTS: [u8; 8] = [1, 2, 4, 8, 16, 32, 64, 128];
-
 // The bit in place k changed; nothing, where the block has no such bit.
 pub fn flip(block: &mut [u8], k: usize)
     ensures { block.new ≡ flipped k block.old }
 {
     let at = k / 8;
     if at < block.len() {
-        block[at] = block[at] ^ WEIGHTS[k % 8];
+        block[at] ^= 1 << (k % 8);
     }
 }
 

@@ -1,70 +1,45 @@
 -- `block_division::check_bits` meets its contract: m is the check bits so far, mirrored. Assumes nothing.
 use mathlib.Core.Path.{◌≡◌, refl, ap, ◌∙◌}
 use mathlib.Core.List.{List}
-use Prim.Native.Nat.{ℕ, ◌<◌, zero-le}
+use Prim.Native.Nat.{ℕ, ◌+◌, ◌<◌}
 use native.Mathlib.Omega.{arith}
-use lib.ListN.{get_or, take}
+use lib.ListN.{length, get_or, take}
 use lib.Seq.{take_all}
 use lib.Bits.{bit_xor, xor_lt}
-use borrow.Author.Rules.{rules}
 use Rattle.block_division.specs.Division.{low_bits, bits, reduce, divide, check_bits}
 use Rattle.block_division.specs.Polynomials.{polynomial}
 use Rattle.block_division.specs.Table.{mirrored, entering, Remainders}
 use Rattle.block_division.proofs.Entering.{rule, next_byte, so_far_lt, back_again}
 use Rattle.block_division.proofs.check_bits.Goals as goal
 
-m_lt : (m i : ℕ) (bytes : List ℕ) → m ≡ mirrored (check_bits (take i bytes)) → m < 256
-m_lt m i bytes e = omega (arith, e, so_far_lt (take i bytes))
-
-wide : {n : ℕ} → n < 256 → n < 18446744073709551616
-wide h = omega (arith, h)
+-- what the table has for the byte in place i, with the check bits of those before it added
+looked_up : (table : List ℕ) (B : List ℕ) (i m k : ℕ) → Remainders table → m ≡ mirrored (check_bits (take i B))
+    → i < length B → get_or B i 0 < 256 → k ≡ bit_xor m (get_or B i 0)
+    → get_or table k 0 ≡ mirrored (check_bits (take (i + 1) B))
+unfolding Remainders
+looked_up table B i m k r e h l f =
+    let b : ℕ = get_or B i 0 in
+    let m_less : m < 256 = omega (arith, e, so_far_lt (take i B)) in
+    ap (λ (x : ℕ). get_or table x 0) f ∙ r (bit_xor m b) (xor_lt 8 m b m_less l)
+    ∙ ap (λ (x : ℕ). entering (bit_xor x b)) e ∙ next_byte B i h
 
 -- the table's rule is shown here, once: the last part is the test over all 256 entries, computed
-pub loop-i-init : goal.loop-i-init
+pub loop-byte-init : goal.loop-byte-init
 unfolding check_bits bits divide reduce low_bits mirrored polynomial entering
-loop-i-init c = (zero-le, refl, rule _ tt)
+loop-byte-init c = (refl, rule _ tt)
 
-pub bounds-bytes-i : goal.bounds-bytes-i
-bounds-bytes-i c = omega arith
-
-pub overflow_cast-m : goal.overflow_cast-m
-overflow_cast-m c =
-    let l : c.loop-i.m < 256 = m_lt c.loop-i.m c.loop-i.i c.args.bytes.now c.loop-i.invariant.1 in
-    let k : get_or c.args.bytes.now c.loop-i.i 0 < 256 = omega (arith, c.type_inv.bytes c.loop-i.i) in
-    record { fits = wide (search (rules, xor_lt 8, l, k)) }
-
-pub bounds-table-m : goal.bounds-table-m
-bounds-table-m c =
-    let l : c.loop-i.m < 256 = m_lt c.loop-i.m c.loop-i.i c.args.bytes.now c.loop-i.invariant.1 in
-    let k : get_or c.args.bytes.now c.loop-i.i 0 < 256 = omega (arith, c.type_inv.bytes c.loop-i.i) in
-    search (rules, xor_lt 8, l, k)
-
-pub overflow_add-i : goal.overflow_add-i
-overflow_add-i c = omega arith
-
-pub loop-i-smaller : goal.loop-i-smaller
-loop-i-smaller c = omega arith
-
-pub loop-i-preserved : goal.loop-i-preserved
-unfolding Remainders
-loop-i-preserved c =
-    let l = c.loop-i in
-    let bytes : List ℕ = c.args.bytes.now in
-    let b : ℕ = get_or bytes l.i 0 in
-    let m_less : l.m < 256 = m_lt l.m l.i bytes l.invariant.1 in
-    let b_less : b < 256 = omega (arith, c.type_inv.bytes l.i) in (
-      omega arith,
-      l.invariant.2 (bit_xor l.m b) (xor_lt 8 l.m b m_less b_less) ∙ ap (λ (x : ℕ). entering (bit_xor x b)) l.invariant.1
-          ∙ next_byte bytes l.i (omega arith),
-      l.invariant.2,
+pub loop-byte-preserved : goal.loop-byte-preserved
+loop-byte-preserved c =
+    let l = c.loop-byte in
+    let b : List ℕ = c.args.bytes.now in (
+      looked_up _ b l.byte-index l.m c.from.result l.invariant.1 l.invariant.0 (omega arith)
+          (omega (arith, c.type_inv.bytes l.byte-index)) c.from.ensures,
+      l.invariant.1,
     )
-
-pub mirror-requires : goal.mirror-requires
-mirror-requires c = tt
 
 pub returns : goal.returns
 returns c =
-    let l = c.loop-i in
+    let l = c.loop-byte in
     let b : List ℕ = c.args.bytes.now in
-    c.mirror.ensures ∙ ap mirrored l.invariant.1 ∙ back_again (take l.i b)
-    ∙ ap check_bits (take_all l.i b (omega arith))
+    c.mirror.ensures ∙ ap mirrored l.invariant.0 ∙ back_again (take l.byte-index b)
+    ∙ ap check_bits (take_all l.byte-index b (omega arith))

@@ -2,13 +2,9 @@
 -- nothing.
 use mathlib.Core.Path.{◌≡◌}
 use mathlib.Core.List.{◌++◌}
-use Prim.Native.Nat.{◌-◌, ◌≤◌}
-use lib.ListN.{length, take, drop}
+use lib.ListN.{take, drop}
 use Rattle.block_maker.specs.Making.{useful}
 use Rattle.block_maker.proofs.fill.Given as goal
 
 abbrev pub invariant-loop-i : goal.invariant-loop-i
-invariant-loop-i l = (l.i ≤ 15) × (l.out ≡ take l.i (useful l.values) ++ drop l.i l.initial.out) × (length l.out ≡ length l.initial.out)
-
-abbrev pub decreases-loop-i : goal.decreases-loop-i
-decreases-loop-i l = 15 - l.i
+invariant-loop-i l = l.out ≡ take l.i (useful l.values) ++ drop l.i l.initial.out

@@ -1,10 +1,10 @@
 -- `block_maker::make` meets its contract: each answer has passed the tests before its own. Assumes nothing.
 use mathlib.Core.Path.{◌≡◌, ◌∙◌, subst}
 use mathlib.Core.List.{List}
-use Prim.Native.Nat.{ℕ, ◌≤◌, ◌<◌}
+use Prim.Native.Nat.{ℕ, ◌≤◌}
 use native.Mathlib.Omega.{arith}
 use lib.ListN.{length}
-use borrow.Author.Tests.{lt-ltb, le-ltb, eq-eqb, ne_eqb}
+use borrow.Author.Tests.{le-ltb, ne_eqb}
 use Rattle.values.specs.Large.{first_large}
 use Rattle.block_maker.proofs.Stores.{both_written}
 use Rattle.block_maker.proofs.make.Goals as goal

@@ -1,8 +1,9 @@
 -- `block_places::place` meets its contract, by the table's rule. Assumes nothing.
 use Prim.Native.Nat.{◌%◌}
 use native.Mathlib.Nat.{mod-lt, zero-lt-suc}
-use Rattle.block_places.proofs.Pointed.{pointed}
+use Rattle.block_places.specs.Places.{Pointing}
 use Rattle.block_places.proofs.place.Goals as goal
 
 pub returns : goal.returns
-returns c = pointed (c.args.r % 128) (mod-lt c.args.r (zero-lt-suc 127))
+unfolding Pointing
+returns c = c.places.ensures (c.args.r % 128) (mod-lt c.args.r (zero-lt-suc 127))

@@ -1,25 +1,16 @@
--- `block_validity::flip` meets its contract: the table of weights holds the powers of two. Assumes nothing.
+-- `block_validity::flip` meets its contract: the shift makes the powers of two. Assumes nothing.
 use mathlib.Core.Path.{◌≡◌, sym, ap}
-use mathlib.Core.Bool.{Bool}
-use mathlib.Core.List.{List, [], ◌∷◌}
-use Prim.Native.Nat.{ℕ, ◌/◌, ◌%◌, ◌^◌}
+use mathlib.Core.List.{List}
+use Prim.Native.Nat.{ℕ, ◌*◌, ◌/◌, ◌%◌, ◌^◌}
 use native.Mathlib.Omega.{arith}
-use lib.Dec.{eqb, eqb→eq}
 use lib.ListN.{get_or, set}
 use lib.Seq.{set_out}
-use Rattle.laws.proofs.Computed.{at}
+use Rattle.laws.proofs.Computed.{equal_at}
 use Rattle.block_validity.specs.Changed.{turned, flip}
 use Rattle.block_validity.proofs.flip.Goals as goal
 
-abbrev weights : List ℕ
-weights = 1 ∷ 2 ∷ 4 ∷ 8 ∷ 16 ∷ 32 ∷ 64 ∷ 128 ∷ []
-
-right : ℕ → Bool
-right j = eqb (get_or weights j 0) (2 ^ j)
-
-weight : (k : ℕ) → get_or weights (k % 8) 0 ≡ 2 ^ (k % 8)
-unfolding right
-weight k = eqb→eq (get_or weights (k % 8) 0) (2 ^ (k % 8)) (at right 8 tt (k % 8) (omega arith))
+weight : (k : ℕ) → 1 * 2 ^ (k % 8) % 256 ≡ 2 ^ (k % 8)
+weight k = equal_at (λ (j : ℕ). 1 * 2 ^ j % 256) (λ (j : ℕ). 2 ^ j) 8 tt (k % 8) (omega arith)
 
 pub returns-then-at-block : goal.returns-then-at-block
 unfolding flip
