@@ -8,7 +8,7 @@ use lib.ListN.{get_or, take}
 use Rattle.values.specs.Large.{Values}
 use Rattle.values.proofs.Found.{values_head, values_tail}
 use Rattle.links_wiring.specs.declared.Module.{Module}
-use Rattle.links_wiring.specs.declared.Table.{Table}
+use Rattle.links_wiring.specs.Each.{Table}
 use Rattle.links_wiring.specs.Modules.{receiver_code}
 use Rattle.links_replies.specs.Replies.{status_of, reply_of}
 use Rattle.links_replies.proofs.Statuses.{reply_small}
@@ -89,11 +89,11 @@ unsaid modem (v ∷ vs) = unsaid modem vs
 unsaid socket [] = refl
 unsaid socket (v ∷ vs) = unsaid socket vs
 
-same_links : (a b : Links) → a.table ≡ b.table → a.modem ≡ b.modem → a.socket ≡ b.socket → a ≡ b
+same_links : (a b : Links) → a.table ≡ b.table → a.unfinished.modem ≡ b.unfinished.modem → a.unfinished.socket ≡ b.unfinished.socket → a ≡ b
 same_links a b p q s =
-    ap (λ (t : Table). record { table = t; modem = a.modem; socket = a.socket }) p
-    ∙ ap (λ (u : Unfinished). record { table = b.table; modem = u; socket = a.socket }) q
-    ∙ ap (λ (u : Unfinished). record { table = b.table; modem = b.modem; socket = u }) s
+    ap (λ (t : Table). record { table = t; unfinished = record { modem = a.unfinished.modem; socket = a.unfinished.socket } }) p
+    ∙ ap (λ (u : Unfinished). record { table = b.table; unfinished = record { modem = u; socket = a.unfinished.socket } }) q
+    ∙ ap (λ (u : Unfinished). record { table = b.table; unfinished = record { modem = b.unfinished.modem; socket = u } }) s
 
 -- with nothing unfinished before it, nothing is behind it
 own_over : (e : Ear) (l : Links) (x y : ℕ) → InLinks l → unfinished l e ≡ Free → Values (spelled (pro3 99 x y))

@@ -3,7 +3,7 @@ use lib.Dec.{ltb}
 use Rattle.laws.proofs.Computed.{chosen}
 use Rattle.links_wiring.specs.declared.Module.{Module}
 use Rattle.links_wiring.specs.declared.Module.TheVariants.{Keyboard}
-use Rattle.links_wiring.specs.declared.Table.{Table}
+use Rattle.links_wiring.specs.Each.{Table}
 use Rattle.links_wiring.specs.Tables.{local_table, connected_table}
 use Rattle.links_commands.specs.declared.Order.TheVariants.{Pass}
 use Rattle.links_hearing.specs.Hearing.{heard}

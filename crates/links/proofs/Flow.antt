@@ -5,7 +5,7 @@ use mathlib.Core.List.{List, [], ◌∷◌}
 use Prim.Native.Nat.{ℕ, ◌<◌}
 use Rattle.links_wiring.specs.declared.Module.{Module}
 use Rattle.links_wiring.specs.declared.Module.TheVariants.{Keyboard}
-use Rattle.links_wiring.specs.declared.Table.{Table}
+use Rattle.links_wiring.specs.Each.{Table}
 use Rattle.links_wiring.specs.Tables.{reaches}
 use Rattle.links_hearing.specs.declared.Unfinished.{Unfinished}
 use Rattle.links_hearing.specs.declared.Unfinished.TheVariants.{Free}

@@ -9,7 +9,7 @@ use borrow.Author.Tests.{le-ltb}
 use Rattle.laws.proofs.Computed.{chosen}
 use Rattle.values.specs.Large.{Values}
 use Rattle.values.proofs.Found.{values_head, values_tail}
-use Rattle.links_wiring.specs.declared.Table.{Table}
+use Rattle.links_wiring.specs.Each.{Table}
 use Rattle.links_wiring.specs.Tables.{local_table, connected_table}
 use Rattle.links_hearing.specs.declared.Unfinished.{Unfinished}
 use Rattle.links_hearing.specs.declared.Unfinished.TheVariants.{Free}
@@ -30,25 +30,25 @@ use Rattle.links.proofs.Refusals.{large, small}
 -- a value from an ear, taken or refused
 took : (e f : Ear) (l : Links) (v : ℕ) → in_range l ≡ true → (t : Bool) → ltb 127 v ≡ t
     → unfinished (from_ear l f v).next e ≡ left_after (unfinished l e) (cond (same_ear e f) (cond t [] (v ∷ [])) [])
-took modem modem l v i true h = ap (λ (o : Outcome). o.next.modem) (large (value modem v) l i h)
-took modem socket l v i true h = ap (λ (o : Outcome). o.next.modem) (large (value socket v) l i h)
-took socket modem l v i true h = ap (λ (o : Outcome). o.next.socket) (large (value modem v) l i h)
-took socket socket l v i true h = ap (λ (o : Outcome). o.next.socket) (large (value socket v) l i h)
+took modem modem l v i true h = ap (λ (o : Outcome). o.next.unfinished.modem) (large (value modem v) l i h)
+took modem socket l v i true h = ap (λ (o : Outcome). o.next.unfinished.modem) (large (value socket v) l i h)
+took socket modem l v i true h = ap (λ (o : Outcome). o.next.unfinished.socket) (large (value modem v) l i h)
+took socket socket l v i true h = ap (λ (o : Outcome). o.next.unfinished.socket) (large (value socket v) l i h)
 took modem modem l v i false h =
-    ap (λ (o : Outcome). o.next.modem) (accepted modem l v i (small v h)) ∙ own_heard modem l (heard l.modem v)
+    ap (λ (o : Outcome). o.next.unfinished.modem) (accepted modem l v i (small v h)) ∙ own_heard modem l (heard l.unfinished.modem v)
 took modem socket l v i false h =
-    ap (λ (o : Outcome). o.next.modem) (accepted socket l v i (small v h))
-    ∙ other_heard socket l (heard l.socket v)
+    ap (λ (o : Outcome). o.next.unfinished.modem) (accepted socket l v i (small v h))
+    ∙ other_heard socket l (heard l.unfinished.socket v)
 took socket modem l v i false h =
-    ap (λ (o : Outcome). o.next.socket) (accepted modem l v i (small v h)) ∙ other_heard modem l (heard l.modem v)
+    ap (λ (o : Outcome). o.next.unfinished.socket) (accepted modem l v i (small v h)) ∙ other_heard modem l (heard l.unfinished.modem v)
 took socket socket l v i false h =
-    ap (λ (o : Outcome). o.next.socket) (accepted socket l v i (small v h)) ∙ own_heard socket l (heard l.socket v)
+    ap (λ (o : Outcome). o.next.unfinished.socket) (accepted socket l v i (small v h)) ∙ own_heard socket l (heard l.unfinished.socket v)
 
 -- a table chosen
 left_by_choice : (e : Ear) (l : Links) (t : Table) → unfinished (choosing l t).next e ≡ unfinished l e
 unfolding choosing
-left_by_choice modem l t = chosen (λ (o : Outcome). o.next.modem ≡ l.modem) (in_range l) (λ i. refl) (λ i. refl)
-left_by_choice socket l t = chosen (λ (o : Outcome). o.next.socket ≡ l.socket) (in_range l) (λ i. refl) (λ i. refl)
+left_by_choice modem l t = chosen (λ (o : Outcome). o.next.unfinished.modem ≡ l.unfinished.modem) (in_range l) (λ i. refl) (λ i. refl)
+left_by_choice socket l t = chosen (λ (o : Outcome). o.next.unfinished.socket ≡ l.unfinished.socket) (in_range l) (λ i. refl) (λ i. refl)
 
 pub own_call : (c : Call) (l : Links) (e : Ear) → InLinks l
     → unfinished (obey c l).next e ≡ left_after (unfinished l e) (said_at e c)

@@ -8,7 +8,7 @@ use borrow.Author.Tests.{ltb-false}
 use Rattle.laws.proofs.Computed.{chosen, and_left, and_right, holds, is_true}
 use Rattle.values.specs.Large.{Values}
 use Rattle.values.proofs.Found.{values_none}
-use Rattle.links_wiring.specs.declared.Table.{Table}
+use Rattle.links_wiring.specs.Each.{Table}
 use Rattle.links_wiring.specs.Tables.{local_table, connected_table, self_linked, NoneItself}
 use Rattle.links_wiring.proofs.Selves.{tested as selves-tested, passed as selves-passed}
 use Rattle.links_wiring.proofs.Selves.{local_none, connected_none}
@@ -37,8 +37,8 @@ pub tested : (l : Links) → in_range l ≡ true → InLinks l
 unfolding in_range
 tested l e =
     let self = not (self_linked l.table) in
-    let line = sequence_in_range l.modem in
-    let port = sequence_in_range l.socket in
+    let line = sequence_in_range l.unfinished.modem in
+    let port = sequence_in_range l.unfinished.socket in
     let rest = and_right self (line && port) (holds e) in
     record {
       none_itself =
@@ -46,18 +46,18 @@ tested l e =
       small = small (is_true line (and_left line port rest)) (is_true port (and_right line port rest));
     }
   where
-    small : sequence_in_range l.modem ≡ true → sequence_in_range l.socket ≡ true → (e : Ear)
+    small : sequence_in_range l.unfinished.modem ≡ true → sequence_in_range l.unfinished.socket ≡ true → (e : Ear)
         → Values (codes_of (unfinished l e))
-    small a b modem = codes-tested l.modem a
-    small a b socket = codes-tested l.socket b
+    small a b modem = codes-tested l.unfinished.modem a
+    small a b socket = codes-tested l.unfinished.socket b
 
 pub passed : (l : Links) → InLinks l → in_range l ≡ true
 unfolding in_range
 passed l r =
     simp (
       selves-passed l.table r.none_itself,
-      codes-passed l.modem (r.small modem),
-      codes-passed l.socket (r.small socket),
+      codes-passed l.unfinished.modem (r.small modem),
+      codes-passed l.unfinished.socket (r.small socket),
     )
 
 -- ---- every call keeps it
@@ -80,22 +80,22 @@ heard_kept : (l : Links) (e : Ear) (v : ℕ) → InLinks l → v ≤ 127 → InL
 unfolding taking
 heard_kept l modem v r h =
     record {
-      none_itself = still_none_itself l.table (name_of modem) (heard l.modem v).order r.none_itself;
+      none_itself = still_none_itself l.table (name_of modem) (heard l.unfinished.modem v).order r.none_itself;
       small = small;
     }
   where
-    small : (e : Ear) → Values (codes_of (unfinished (taking l modem (heard l.modem v)).next e))
-    small modem = codes_still l.modem v (r.small modem) h
+    small : (e : Ear) → Values (codes_of (unfinished (taking l modem (heard l.unfinished.modem v)).next e))
+    small modem = codes_still l.unfinished.modem v (r.small modem) h
     small socket = r.small socket
 heard_kept l socket v r h =
     record {
-      none_itself = still_none_itself l.table (name_of socket) (heard l.socket v).order r.none_itself;
+      none_itself = still_none_itself l.table (name_of socket) (heard l.unfinished.socket v).order r.none_itself;
       small = small;
     }
   where
-    small : (e : Ear) → Values (codes_of (unfinished (taking l socket (heard l.socket v)).next e))
+    small : (e : Ear) → Values (codes_of (unfinished (taking l socket (heard l.unfinished.socket v)).next e))
     small modem = r.small modem
-    small socket = codes_still l.socket v (r.small socket) h
+    small socket = codes_still l.unfinished.socket v (r.small socket) h
 
 Keeps : Outcome → Type 0
 Keeps o = InLinks o.next

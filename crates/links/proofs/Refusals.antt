@@ -7,10 +7,11 @@ use lib.Dec.{ltb}
 use borrow.Author.Tests.{ltb-false}
 use Rattle.laws.proofs.Computed.{fails}
 use Rattle.numbers.specs.Numbers.{told_of}
+use Rattle.std.specs.Prelude.{Ok}
 use Rattle.links_wiring.specs.Tables.{local_table, connected_table}
 use Rattle.links_hearing.specs.Hearing.{heard}
 use Rattle.links.specs.declared.Links.{Links}
-use Rattle.links.specs.declared.Answer.TheVariants.{Taken, TooLarge, Broken}
+use Rattle.links.specs.declared.Refusal.TheVariants.{TooLarge, Broken}
 use Rattle.links.specs.declared.Outcome.{Outcome}
 use Rattle.links.specs.States.{unfinished, in_range}
 use Rattle.links.specs.Calls.{told, refused, choosing, from_ear, from_keyboard}
@@ -34,7 +35,7 @@ large to_connected l i h = absurd (fails (sym h) tt)
 pub small : (v : ℕ) → ltb 127 v ≡ false → v < 128
 small v h = omega (arith, ltb-false 127 v h)
 
-pub taken_else : (c : Call) (l : Links) → in_range l ≡ true → too_large c ≡ false → (obey c l).answer ≡ Taken
+pub taken_else : (c : Call) (l : Links) → in_range l ≡ true → too_large c ≡ false → (obey c l).answer ≡ Ok tt
 taken_else (key v) l i h = ap (λ (o : Outcome). o.answer) (key_accepted l v i (small v h))
 taken_else (value e v) l i h =
     ap (λ (o : Outcome). o.answer) (accepted e l v i (small v h)) ∙ answer_heard e l (heard (unfinished l e) v)

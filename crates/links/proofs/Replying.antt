@@ -6,7 +6,7 @@ use Prim.Native.Nat.{ℕ, ◌+◌, ◌<◌}
 use lib.Dec.{ltb}
 use lib.ListN.{length, get_or, take}
 use Rattle.links_wiring.specs.declared.Module.{Module}
-use Rattle.links_wiring.specs.declared.Table.{Table}
+use Rattle.links_wiring.specs.Each.{Table}
 use Rattle.links_wiring.specs.Modules.{same, receiver_code, sender_code}
 use Rattle.links_wiring.specs.Tables.{reaches}
 use Rattle.links_wiring.proofs.Small.{receiver_small, sender_small}
@@ -20,8 +20,7 @@ use Rattle.links_commands.specs.Commands.{Command, spelled, beginning, last_of, 
 use Rattle.links_hearing.specs.Hearing.{codes_of, does, heard}
 use Rattle.links_commands.proofs.Known.{link_ordered, ask_ordered}
 use Rattle.links_hearing.proofs.Spelling.{midway, over, ends, waits}
-use Rattle.links_sending.specs.declared.Sent.{Sent}
-use Rattle.links_sending.specs.Sending.{obeyed, gets}
+use Rattle.links_sending.specs.Sending.{Sent, obeyed, gets}
 use Rattle.links_sending.proofs.Getting.{gets_nothing, nothing_sent, link_replied, ask_replied, table_after_lem, pairs_after}
 use Rattle.links.specs.declared.Links.{Links}
 use Rattle.links_hearing.specs.declared.ears.Ear.{Ear}

@@ -5,8 +5,9 @@ use Prim.Native.Nat.{ℕ, ◌<◌}
 use native.Mathlib.Omega.{arith}
 use lib.Dec.{ltb}
 use borrow.Author.Tests.{le-ltb}
+use Rattle.std.specs.Prelude.{Ok}
 use Rattle.links_wiring.specs.declared.Module.TheVariants.{Keyboard}
-use Rattle.links_wiring.specs.declared.Table.{Table}
+use Rattle.links_wiring.specs.Each.{Table}
 use Rattle.links_commands.specs.declared.Order.TheVariants.{Pass}
 use Rattle.links_hearing.specs.declared.Heard.{Heard}
 use Rattle.links_hearing.specs.Hearing.{heard}
@@ -14,7 +15,6 @@ use Rattle.links_sending.specs.Sending.{silence, obeyed}
 use Rattle.links.specs.declared.Links.{Links}
 use Rattle.links_hearing.specs.declared.ears.Ear.{Ear}
 use Rattle.links_hearing.specs.declared.ears.Ear.TheVariants.{Modem as modem, Socket as socket}
-use Rattle.links.specs.declared.Answer.TheVariants.{Taken}
 use Rattle.links_hearing.specs.Ears.{name_of}
 use Rattle.links_hearing.proofs.Apart.{owns}
 use Rattle.links.specs.States.{unfinished, in_range}
@@ -38,7 +38,7 @@ table_chosen l t i = simp i
 
 -- ---- the parts of what was heard
 
-pub answer_heard : (e : Ear) (l : Links) (h : Heard) → (taking l e h).answer ≡ Taken
+pub answer_heard : (e : Ear) (l : Links) (h : Heard) → (taking l e h).answer ≡ Ok tt
 unfolding taking
 answer_heard e l h = refl
 
@@ -50,8 +50,8 @@ table_heard socket l h = refl
 
 pub own_heard : (e : Ear) (l : Links) (h : Heard) → unfinished (taking l e h).next e ≡ h.unfinished
 unfolding taking
-own_heard modem l h = (owns h.unfinished l.socket).0
-own_heard socket l h = (owns l.modem h.unfinished).1
+own_heard modem l h = (owns h.unfinished l.unfinished.socket).0
+own_heard socket l h = (owns l.unfinished.modem h.unfinished).1
 
 pub other_heard : (e : Ear) (l : Links) (h : Heard) → unfinished (taking l e h).next (other e) ≡ unfinished l (other e)
 unfolding taking

@@ -8,7 +8,7 @@ use Rattle.values.specs.Large.{Values}
 use Rattle.values.proofs.Found.{values_head, values_tail}
 use Rattle.links_wiring.specs.declared.Module.{Module}
 use Rattle.links_wiring.specs.declared.Module.TheVariants.{Screen}
-use Rattle.links_wiring.specs.declared.Table.{Table}
+use Rattle.links_wiring.specs.Each.{Table}
 use Rattle.links_wiring.specs.Modules.{same}
 use Rattle.links_wiring.specs.Tables.{reaches}
 use Rattle.links_wiring.proofs.Selves.{reached_apart}
@@ -19,8 +19,7 @@ use Rattle.links_hearing.specs.Hearing.{codes_of, heard}
 use Rattle.links_hearing.specs.Phrases.{Phrase, alone, AllProper, all_values, all_flowing}
 use Rattle.links_hearing.proofs.Flowing.{passed as passed_on, flow, flow_append, flows_on}
 use Rattle.links_replies.specs.Replies.{reply_of}
-use Rattle.links_sending.specs.declared.Sent.{Sent}
-use Rattle.links_sending.specs.Sending.{obeyed, gets}
+use Rattle.links_sending.specs.Sending.{Sent, obeyed, gets}
 use Rattle.links_sending.proofs.Getting.{gets_nothing, nothing_sent, pass_goes, pair_goes, link_replied, ask_replied}
 use Rattle.links.specs.declared.Links.{Links}
 use Rattle.links_hearing.specs.declared.ears.Ear.{Ear}

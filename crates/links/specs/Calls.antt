@@ -1,41 +1,40 @@
 -- What each call answers, hands back and sends, for any state and any value (01, "Links and commands", "Numbers
 -- given"). Assumes nothing.
-use Rattle.std.specs.Prelude.{cond, [], ◌∷◌, ℕ, ltb}
+use Rattle.std.specs.Prelude.{Result, Ok, Err, cond, [], ◌∷◌, ℕ, ltb}
 use Rattle.numbers.specs.Numbers.{Told}
 use Rattle.links_wiring.specs.declared.Module.TheVariants.{Keyboard}
-use Rattle.links_wiring.specs.declared.Table.{Table}
+use Rattle.links_wiring.specs.Each.{Table}
 use Rattle.links_wiring.specs.Tables.{local_table, connected_table}
 use Rattle.links_commands.specs.declared.Order.TheVariants.{Pass}
 use Rattle.links_hearing.specs.declared.Heard.{Heard}
 use Rattle.links_hearing.specs.Hearing.{heard}
-use Rattle.links_sending.specs.declared.Sent.{Sent}
-use Rattle.links_sending.specs.Sending.{silence, obeyed}
+use Rattle.links_sending.specs.Sending.{Sent, silence, obeyed}
 use Rattle.links.specs.declared.Links.{Links}
 use Rattle.links_hearing.specs.declared.ears.Ear.{Ear}
 use Rattle.links_hearing.specs.declared.ears.Ear.TheVariants.{Modem as modem, Socket as socket}
-use Rattle.links.specs.declared.Answer.{Answer}
-use Rattle.links.specs.declared.Answer.TheVariants.{Taken, TooLarge, Broken}
+use Rattle.links.specs.declared.Refusal.{Refusal}
+use Rattle.links.specs.declared.Refusal.TheVariants.{TooLarge, Broken}
 use Rattle.links.specs.declared.Outcome.{Outcome}
 use Rattle.links_hearing.specs.Ears.{name_of}
 use Rattle.links.specs.States.{unfinished, left, in_range}
 
 -- the number of each answer, and what it names: a single value stands at place 0
-abbrev pub told : Answer → Told
-told Taken = record { number = 0; named = [] }
-told TooLarge = record { number = 2; named = 0 ∷ [] }
-told Broken = record { number = 5; named = [] }
+abbrev pub told : Result (Unit {0}) Refusal → Told
+told (Ok taken) = record { number = 0; named = [] }
+told (Err TooLarge) = record { number = 2; named = 0 ∷ [] }
+told (Err Broken) = record { number = 5; named = [] }
 
 -- ---- what a call hands back
 
-abbrev pub giving : Links → Answer → Sent → Outcome
+abbrev pub giving : Links → Result (Unit {0}) Refusal → Sent → Outcome
 giving next answer sent = record { next = next; answer = answer; sent = sent }
 
 abbrev pub taken : Links → Sent → Outcome
-taken next sent = giving next Taken sent
+taken next sent = giving next (Ok tt) sent
 
 -- "that state handed back", and nothing sent
-abbrev pub refused : Links → Answer → Outcome
-refused l answer = giving l answer silence
+abbrev pub refused : Links → Refusal → Outcome
+refused l refusal = giving l (Err refusal) silence
 
 -- 5 before 2
 abbrev pub unless_refused : Links → ℕ → Outcome → Outcome
@@ -45,7 +44,7 @@ unless_refused l v o = cond (in_range l) (cond (ltb 127 v) (refused l TooLarge) 
 
 -- what is unfinished stays
 abbrev pub with_table : Links → Table → Links
-with_table l t = record { table = t; modem = l.modem; socket = l.socket }
+with_table l t = record { table = t; unfinished = l.unfinished }
 
 unfoldable pub choosing : Links → Table → Outcome
 choosing l t = cond (in_range l) (taken (with_table l t) silence) (refused l Broken)

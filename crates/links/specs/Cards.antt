@@ -1,14 +1,15 @@
 -- Cards of the links: worked runs, with every byte written out (01, "Links and commands"; 001, part 2, chapter 6), as
 -- one list and one statement over it. Assumes nothing.
-use Rattle.std.specs.Prelude.{◌≡◌, true, false, List, [], ◌∷◌, ◌++◌, map, ℕ, take, replicate}
+use Rattle.std.specs.Prelude.{◌≡◌, true, false, List, [], ◌∷◌, ◌++◌, map, ℕ, replicate}
 use Rattle.links_wiring.specs.declared.Module.{Module}
 use Rattle.links_wiring.specs.declared.Module.TheVariants.{Screen, Keyboard, Modem, Socket}
 use Rattle.links_wiring.specs.Reading.{all_reached}
 use Rattle.links_hearing.specs.declared.Unfinished.TheVariants.{Free, Escape, Pro1, Pro2, Pro2With}
 use Rattle.links_hearing.specs.declared.Unfinished.TheVariants.{Pro3, Pro3With, Pro3Both}
 use Rattle.links_hearing.specs.Hearing.{codes_of}
-use Rattle.links_sending.specs.declared.Bytes.{Bytes}
-use Rattle.links_sending.specs.declared.Sent.{Sent}
+use Rattle.few.specs.declared.Few.{Few}
+use Rattle.few.specs.Bytes.{contents}
+use Rattle.links_sending.specs.Sending.{Sent}
 use Rattle.links.specs.declared.Links.{Links}
 use Rattle.links.specs.declared.Outcome.{Outcome}
 use Rattle.links.specs.States.{local_links, connected_links}
@@ -50,10 +51,10 @@ abbrev pub numbers_of : Links → List (Links → Outcome) → List ℕ
 numbers_of l [] = []
 numbers_of l (c ∷ cs) = (told (c l).answer).number ∷ numbers_of (c l).next cs
 
-abbrev pub got_by : (Sent → Bytes) → Links → List (Links → Outcome) → List ℕ
+abbrev pub got_by : (Sent → Few 5) → Links → List (Links → Outcome) → List ℕ
 got_by part l [] = []
 got_by part l (c ∷ cs) =
-    let b = part (c l).sent in take b.count b.codes ++ got_by part (c l).next cs
+    contents (part (c l).sent) ++ got_by part (c l).next cs
 
 abbrev pub after : Links → List (Links → Outcome) → Links
 after l [] = l
@@ -68,7 +69,7 @@ seen l cs =
       modem = got_by (λ (s : Sent). s.modem) l cs;
       socket = got_by (λ (s : Sent). s.socket) l cs;
       table = all_reached (after l cs).table;
-      unfinished = codes_of (after l cs).modem ∷ codes_of (after l cs).socket ∷ [];
+      unfinished = codes_of (after l cs).unfinished.modem ∷ codes_of (after l cs).unfinished.socket ∷ [];
     }
 
 -- ---- a card
@@ -240,12 +241,12 @@ apart =
     ∷ card local_links (modem (27 ∷ 57 ∷ []) ++ socket (65 ∷ [])) (zeros 3) (65 ∷ []) [] [] [] as_local
     ((27 ∷ 57 ∷ []) ∷ [] ∷ [])
     -- begun before
-    ∷ card (record { table = local_links.table; modem = Pro3Both 97 88; socket = Escape })
+    ∷ card (record { table = local_links.table; unfinished = record { modem = Pro3Both 97 88; socket = Escape } })
     (socket (65 ∷ []) ++ modem (81 ∷ [])) (zeros 2) (27 ∷ 65 ∷ []) [] (27 ∷ 59 ∷ 99 ∷ 88 ∷ 79 ∷ []) []
     ([] ∷ (Screen ∷ Modem ∷ Socket ∷ []) ∷ (Screen ∷ []) ∷ (Screen ∷ []) ∷ []) none
-    ∷ card (record { table = local_links.table; modem = Pro1; socket = Pro2 })
+    ∷ card (record { table = local_links.table; unfinished = record { modem = Pro1; socket = Pro2 } })
     (modem (98 ∷ 65 ∷ []) ++ socket (98 ∷ 91 ∷ [])) (zeros 4) (65 ∷ []) [] [] (27 ∷ 59 ∷ 99 ∷ 91 ∷ 74 ∷ []) as_local none
-    ∷ card (record { table = connected_links.table; modem = Pro3; socket = Pro3With 96 })
+    ∷ card (record { table = connected_links.table; unfinished = record { modem = Pro3; socket = Pro3With 96 } })
     (modem (97 ∷ 88 ∷ 81 ∷ []) ++ socket (90 ∷ 81 ∷ [])) (zeros 5) [] [] (27 ∷ 59 ∷ 99 ∷ 88 ∷ 71 ∷ [])
     (27 ∷ 59 ∷ 99 ∷ 90 ∷ 76 ∷ []) ([] ∷ (Screen ∷ []) ∷ (Screen ∷ Socket ∷ []) ∷ (Modem ∷ []) ∷ []) none
     ∷ []
@@ -302,8 +303,7 @@ mirror =
             modem = local_links.table.modem;
             socket = local_links.table.socket;
           };
-      modem = Free;
-      socket = Free;
+      unfinished = record { modem = Free; socket = Free };
     }
 
 abbrev pub as_mirror : List (List Module)
@@ -320,10 +320,10 @@ refusals =
     ∷ card mirror (modem (65 ∷ 128 ∷ []) ++ (socket (27 ∷ []) ++ (keys (65 ∷ 255 ∷ []) ++ (to_local ++ to_connected))))
     (5 ∷ 5 ∷ 5 ∷ 5 ∷ 5 ∷ 5 ∷ 5 ∷ []) [] [] [] [] as_mirror none
     -- a code above 127 unfinished
-    ∷ card (record { table = local_links.table; modem = Free; socket = Pro2With 128 })
+    ∷ card (record { table = local_links.table; unfinished = record { modem = Free; socket = Pro2With 128 } })
     (modem (65 ∷ []) ++ (keys (65 ∷ []) ++ to_connected)) (5 ∷ 5 ∷ 5 ∷ []) [] [] [] [] as_local
     ([] ∷ (27 ∷ 58 ∷ 128 ∷ []) ∷ [])
-    ∷ card (record { table = local_links.table; modem = Pro3Both 97 216; socket = Free }) (socket (65 ∷ []))
+    ∷ card (record { table = local_links.table; unfinished = record { modem = Pro3Both 97 216; socket = Free } }) (socket (65 ∷ []))
     (5 ∷ []) [] [] [] [] as_local ((27 ∷ 59 ∷ 97 ∷ 216 ∷ []) ∷ [] ∷ [])
     ∷ []
 

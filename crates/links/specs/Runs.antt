@@ -1,5 +1,5 @@
 -- A run: calls one after another, and what each sender says and each receiver gets in it. Assumes nothing.
-use Rattle.std.specs.Prelude.{◌≡◌, Bool, true, false, cond, not, List, [], ◌∷◌, ◌++◌, ℕ, ltb}
+use Rattle.std.specs.Prelude.{◌≡◌, Ok, Bool, true, false, cond, not, List, [], ◌∷◌, ◌++◌, ℕ, ltb}
 use Rattle.numbers.specs.Numbers.{Told, told_of}
 use Rattle.values.specs.Large.{Values}
 use Rattle.links_wiring.specs.declared.Module.{Module}
@@ -12,7 +12,6 @@ use Rattle.links_sending.specs.Sending.{gets}
 use Rattle.links.specs.declared.Links.{Links}
 use Rattle.links_hearing.specs.declared.ears.Ear.{Ear}
 use Rattle.links_hearing.specs.declared.ears.Ear.TheVariants.{Modem as modem, Socket as socket}
-use Rattle.links.specs.declared.Answer.TheVariants.{Taken}
 use Rattle.links.specs.declared.Outcome.{Outcome}
 use Rattle.links_hearing.specs.Ears.{name_of}
 use Rattle.links.specs.States.{unfinished, left, in_range}
@@ -111,7 +110,7 @@ pub record Says (e : Ear) (l : Links) (cs : List Call) (vs : List ℕ) : Type 0 
 -- a call is taken: just the receivers that a sender reaches by the table of the moment get these bytes, and this is the
 -- state after it
 pub record PassedOn (l : Links) (c : Call) (sender : Module) (vs : List ℕ) (next : Links) : Type 0 where
-  pub taken : (obey c l).answer ≡ Taken
+  pub taken : (obey c l).answer ≡ Ok tt
   pub state : (obey c l).next ≡ next
   pub reached : (receiver : Module) → given l c receiver ≡ cond (reaches l.table sender receiver) vs []
 
@@ -129,7 +128,7 @@ pub record Swallowed (l : Links) (e : Ear) (v : ℕ) : Type 0 where
 -- a value of an ear ends a command about a receiver: the ear's own module gets the reply that tells the table after it,
 -- whatever the links, and no other module gets anything; what is unfinished from the other ear is as it was
 pub record Answered (l : Links) (e : Ear) (v : ℕ) (receiver : Module) : Type 0 where
-  pub taken : (obey (value e v) l).answer ≡ Taken
+  pub taken : (obey (value e v) l).answer ≡ Ok tt
   pub replied :
       (m : Module)
       → given l (value e v) m ≡ cond (same m (name_of e)) (reply_of (obey (value e v) l).next.table receiver) []

@@ -1,18 +1,15 @@
 -- The state of the links (01, "Links and commands"). Assumes nothing.
 use Rattle.std.specs.Prelude.{Bool, ◌&&◌, not}
-use Rattle.links_wiring.specs.declared.Table.{Table}
+use Rattle.links_wiring.specs.Each.{Table}
 use Rattle.links_wiring.specs.Tables.{self_linked, local_table, connected_table}
 use Rattle.links_hearing.specs.declared.Unfinished.{Unfinished}
-use Rattle.links_hearing.specs.declared.Unfinished.TheVariants.{Free}
-use Rattle.links_hearing.specs.Hearing.{in_range as sequence_in_range}
 use Rattle.links.specs.declared.Links.{Links}
 use Rattle.links_hearing.specs.declared.ears.Ear.{Ear}
-use Rattle.links_hearing.specs.declared.ears.Ear.TheVariants.{Modem as modem, Socket as socket}
-use Rattle.links_hearing.specs.Ears.{own_of}
+use Rattle.links_hearing.specs.Ears.{own_of, free, going_on, both_in_range}
 
 -- a table, and nothing unfinished
 abbrev pub starting : Table → Links
-starting t = record { table = t; modem = Free; socket = Free }
+starting t = record { table = t; unfinished = free }
 
 abbrev pub local_links : Links
 local_links = starting local_table
@@ -22,14 +19,13 @@ connected_links = starting connected_table
 
 -- what is unfinished from an ear
 abbrev pub unfinished : Links → Ear → Unfinished
-unfinished l e = own_of e l.modem l.socket
+unfinished l e = own_of e l.unfinished.modem l.unfinished.socket
 
 -- with this table, and this unfinished from an ear
 abbrev pub left : Links → Ear → Table → Unfinished → Links
-left l modem t u = record { table = t; modem = u; socket = l.socket }
-left l socket t u = record { table = t; modem = l.modem; socket = u }
+left l e t u = record { table = t; unfinished = going_on l.unfinished e u }
 
 -- "each of the two has its own unfinished sequence: in range it is ..", each code at most 127; and "A module is never
 -- linked to itself"
 unfoldable pub in_range : Links → Bool
-in_range l = not (self_linked l.table) && (sequence_in_range l.modem && sequence_in_range l.socket)
+in_range l = not (self_linked l.table) && both_in_range l.unfinished

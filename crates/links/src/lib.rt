@@ -9,13 +9,13 @@
 
 ghost use Rattle.std.specs.Prelude.{◌≡◌};
 ghost use Rattle.links_sending.specs.Sending.{silence};
-ghost use Rattle.links.specs.States.{local_links, connected_links, left, in_range};
+ghost use Rattle.links.specs.States.{starting, local_links, connected_links, in_range};
 ghost use Rattle.links.specs.Calls.{giving, unless_refused, choosing, with_local, with_connected};
 ghost use Rattle.links.specs.Calls.{taking, from_ear, from_keyboard, from_modem, from_socket};
 
 use links_commands::Order;
 pub use links_hearing::Ear;
-use links_hearing::{Heard, Unfinished};
+use links_hearing::{Heard, Sequences};
 use links_sending::Sent;
 use links_wiring::{Module, Table};
 
@@ -23,14 +23,12 @@ use links_wiring::{Module, Table};
 pub struct Links {
     pub table: Table,
     // What is unfinished from each ear.
-    pub modem: Unfinished,
-    pub socket: Unfinished,
+    pub unfinished: Sequences,
 }
 
-// What a call answers: the paper's 0, 2 and 5.
-#[derive(Clone, Copy)]
-pub enum Answer {
-    Taken,
+// Why a call is refused: the paper's 2 and 5.
+#[derive(Clone, Copy, PartialEq, Eq)]
+pub enum Refusal {
     TooLarge,
     Broken,
 }
@@ -38,12 +36,13 @@ pub enum Answer {
 #[derive(Clone, Copy)]
 pub struct Outcome {
     pub next: Links,
-    pub answer: Answer,
+    // The paper's 0, or why it is refused.
+    pub answer: Result<(), Refusal>,
     pub sent: Sent,
 }
 
 // Nothing is sent.
-fn silent(next: Links, answer: Answer) -> Outcome
+fn silent(next: Links, answer: Result<(), Refusal>) -> Outcome
     ensures { result ≡ giving next answer silence }
 {
     Outcome {
@@ -53,59 +52,51 @@ fn silent(next: Links, answer: Answer) -> Outcome
     }
 }
 
+// The two tables, and modem and socket, have a function each: the theorem `a_run_makes_the_public_calls` names each of
+// these calls, and `the_host_chooses_a_table` the links that begin with either table.
 impl Links {
+    // A table, and nothing unfinished.
+    fn starting(table: Table) -> Links
+        ensures { result ≡ starting table }
+    {
+        Links {
+            table,
+            unfinished: Sequences::free(),
+        }
+    }
+
     // The local table, and nothing unfinished: as the board is switched on.
     pub fn local() -> Links
         ensures { result ≡ local_links }
     {
-        Links {
-            table: links_wiring::local_table(),
-            modem: Unfinished::Free,
-            socket: Unfinished::Free,
-        }
+        Links::starting(links_wiring::local_table())
     }
 
     // The connected table, and nothing unfinished.
     pub fn connected() -> Links
         ensures { result ≡ connected_links }
     {
-        Links {
-            table: links_wiring::connected_table(),
-            modem: Unfinished::Free,
-            socket: Unfinished::Free,
-        }
+        Links::starting(links_wiring::connected_table())
     }
 
     // Whether it lies within the ranges of the page, with no module linked to itself.
+    #[tactic(auto, unfolding(crate::specs::States::in_range))]
     pub fn in_range(self) -> bool
         ensures { result ≡ in_range self }
     {
-        if self.table.links_itself() {
-            return false;
-        }
-        let modem = self.modem;
-        let socket = self.socket;
-        if links_hearing::in_range(modem) {
-            return links_hearing::in_range(socket);
-        }
-        false
+        !self.table.links_itself() && self.unfinished.in_range()
     }
 
     // This table; what is unfinished stays.
+    #[tactic(auto, unfolding(crate::specs::Calls::choosing))]
     fn choose(self, table: Table) -> Outcome
         ensures { result ≡ choosing self table }
     {
         if self.in_range() {
-            let modem = self.modem;
-            let socket = self.socket;
-            let next = Links {
-                table,
-                modem,
-                socket,
-            };
-            return silent(next, Answer::Taken);
+            silent(Links { table, ..self }, Ok(()))
+        } else {
+            silent(self, Err(Refusal::Broken))
         }
-        silent(self, Answer::Broken)
     }
 
     // The host chooses the local table.
@@ -126,72 +117,53 @@ impl Links {
     fn unless_refused(self, value: u8, outcome: Outcome) -> Outcome
         ensures { result ≡ unless_refused self value outcome }
     {
-        if self.in_range() {
-            if 127 < value {
-                return silent(self, Answer::TooLarge);
-            }
-            return outcome;
+        if !self.in_range() {
+            silent(self, Err(Refusal::Broken))
+        } else if 127 < value {
+            silent(self, Err(Refusal::TooLarge))
+        } else {
+            outcome
         }
-        silent(self, Answer::Broken)
     }
 
     // A key is passed on, never heard for commands and never held.
+    #[tactic(auto, unfolding(crate::specs::Calls::from_keyboard))]
     pub fn from_keyboard(self, value: u8) -> Outcome
         ensures { result ≡ from_keyboard self value }
     {
         let done = links_sending::obey(self.table, Module::Keyboard, Order::Pass(value));
-        let sent = done.sent;
         let outcome = Outcome {
             next: self,
-            answer: Answer::Taken,
-            sent,
+            answer: Ok(()),
+            sent: done.sent,
         };
         self.unless_refused(value, outcome)
     }
 
-    // The state after what an ear said: the other ear's sequence stays.
-    fn left(self, ear: Ear, table: Table, unfinished: Unfinished) -> Links
-        ensures { result ≡ left self ear table «unfinished» }
-    {
-        let modem = self.modem;
-        let socket = self.socket;
-        match ear {
-            Ear::Modem => Links {
-                table,
-                modem: unfinished,
-                socket,
-            },
-            Ear::Socket => Links {
-                table,
-                modem,
-                socket: unfinished,
-            },
-        }
-    }
-
     // What was heard from an ear: its own sequence follows, and its order is obeyed.
+    #[tactic(auto, unfolding(crate::specs::Calls::taking))]
     fn take(self, ear: Ear, heard: Heard) -> Outcome
         ensures { result ≡ taking self ear heard }
     {
-        let order = heard.order;
-        let unfinished = heard.unfinished;
-        let done = links_sending::obey(self.table, ear.name(), order);
-        let sent = done.sent;
+        let done = links_sending::obey(self.table, Module::from(ear), heard.order);
+        let next = Links {
+            table: done.table,
+            unfinished: self.unfinished.with(ear, heard.unfinished),
+        };
         Outcome {
-            next: self.left(ear, done.table, unfinished),
-            answer: Answer::Taken,
-            sent,
+            next,
+            answer: Ok(()),
+            sent: done.sent,
         }
     }
 
     // A value from an ear.
+    #[tactic(auto, unfolding(crate::specs::Calls::from_ear))]
     fn hear(self, ear: Ear, value: u8) -> Outcome
         ensures { result ≡ from_ear self ear value }
     {
-        let modem = self.modem;
-        let socket = self.socket;
-        let outcome = self.take(ear, links_hearing::hear(ear.own(modem, socket), value));
-        self.unless_refused(value, outcome)
+        let heard = links_hearing::hear(self.unfinished.of(ear), value);
+        self.unless_refused(value, self.take(ear, heard))
     }
 
     // A value that the receiver passes on from the line.

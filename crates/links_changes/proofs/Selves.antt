@@ -5,7 +5,7 @@ use lib.Dec.{T}
 use Rattle.laws.proofs.Computed.{and_left, and_right}
 use Rattle.links_wiring.specs.declared.Module.{Module}
 use Rattle.links_wiring.specs.declared.Module.TheVariants.{Screen, Keyboard, Modem, Socket}
-use Rattle.links_wiring.specs.declared.Table.{Table}
+use Rattle.links_wiring.specs.Each.{Table}
 use Rattle.links_wiring.specs.Modules.{same}
 use Rattle.links_wiring.specs.Tables.{reaches, NoneItself}
 use Rattle.links_commands.specs.declared.Order.{Order}

@@ -1,11 +1,9 @@
 -- The commands: how each is spelled, and what it orders (01, "Links and commands"; codes: 001, part 2, chapter 6).
 -- Assumes nothing.
-use Rattle.std.specs.Prelude.{◌≡◌, Bool, true, false, cond, List, [], ◌∷◌, ℕ, ◌<◌, eqb}
+use Rattle.std.specs.Prelude.{◌≡◌, Option, Some, None, Bool, true, false, cond, List, [], ◌∷◌, ℕ, ◌<◌, eqb}
 use Rattle.links_wiring.specs.declared.Module.{Module}
 use Rattle.links_wiring.specs.declared.Module.TheVariants.{Screen, Keyboard, Modem, Socket}
 use Rattle.links_wiring.specs.Modules.{receiver_code, sender_code}
-use Rattle.links_commands.specs.declared.Named.{Named}
-use Rattle.links_commands.specs.declared.Named.TheVariants.{Is, Nobody}
 use Rattle.links_commands.specs.declared.Order.{Order}
 use Rattle.links_commands.specs.declared.Order.TheVariants.{Nothing, Pass, Pair, Link, Ask}
 
@@ -33,21 +31,21 @@ last_of (pro2 x y) = y
 last_of (pro3 x y z) = z
 
 -- the module that a code names
-abbrev pub named : (Module → ℕ) → ℕ → Named
+abbrev pub named : (Module → ℕ) → ℕ → Option Module
 named code_of c =
-    cond (eqb c (code_of Screen)) (Is Screen)
-    (cond (eqb c (code_of Keyboard)) (Is Keyboard)
-    (cond (eqb c (code_of Modem)) (Is Modem)
-    (cond (eqb c (code_of Socket)) (Is Socket) Nobody)))
+    cond (eqb c (code_of Screen)) (Some Screen)
+    (cond (eqb c (code_of Keyboard)) (Some Keyboard)
+    (cond (eqb c (code_of Modem)) (Some Modem)
+    (cond (eqb c (code_of Socket)) (Some Socket) None)))
 
-abbrev pub asking : Named → Order
-asking (Is receiver) = Ask receiver
-asking Nobody = Nothing
+abbrev pub asking : Option Module → Order
+asking (Some receiver) = Ask receiver
+asking None = Nothing
 
-abbrev pub linking : Named → Named → Bool → Order
-linking Nobody sender on = Nothing
-linking (Is receiver) Nobody on = Nothing
-linking (Is receiver) (Is sender) on = Link receiver sender on
+abbrev pub linking : Option Module → Option Module → Bool → Order
+linking None sender on = Nothing
+linking (Some receiver) None on = Nothing
+linking (Some receiver) (Some sender) on = Link receiver sender on
 
 -- "6/2"; "6/1 or 6/0 .. sets or clears"
 abbrev pub ask_code : ℕ

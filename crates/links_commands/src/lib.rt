@@ -5,8 +5,8 @@
 // just that, and no other command anything.
 #![tactic(auto)]
 
-ghost use Rattle.std.specs.Prelude.{◌≡◌};
-ghost use Rattle.links_wiring.specs.Modules.{receiver_code, sender_code};
+ghost use Rattle.std.specs.Prelude.{◌≡◌, ◌+◌};
+ghost use Rattle.links_wiring.specs.Modules.{place_of};
 ghost use Rattle.links_commands.specs.Commands.{named, asking, linking, ordered_by_two, ordered_by_three};
 
 use links_wiring::Module;
@@ -29,61 +29,44 @@ pub enum Order {
     Ask(Module),
 }
 
-// The module that a code names.
-#[derive(Clone, Copy)]
-enum Named {
-    Is(Module),
-    Nobody,
-}
+// The screen's code: a receiver's are 5/8 to 5/B, a sender's 5/0 to 5/3.
+const RECEIVERS: u8 = 88;
 
-// 5/8 to 5/B.
-fn receiver(code: u8) -> Named
-    ensures { result ≡ named receiver_code code }
+const SENDERS: u8 = 80;
+
+// The module that a code names, of four codes from the first on. It is no `TryFrom`, since a code names a module as a
+// receiver or as a sender.
+fn named(first: u8, code: u8) -> Option<Module>
+    ensures { result ≡ named (λ m. first + place_of m) code }
 {
-    match code {
-        88 => Named::Is(Module::Screen),
-        89 => Named::Is(Module::Keyboard),
-        90 => Named::Is(Module::Modem),
-        91 => Named::Is(Module::Socket),
-        _ => Named::Nobody,
+    match code.checked_sub(first)? {
+        0 => Some(Module::Screen),
+        1 => Some(Module::Keyboard),
+        2 => Some(Module::Modem),
+        3 => Some(Module::Socket),
+        _ => None,
     }
 }
 
-// 5/0 to 5/3.
-fn sender(code: u8) -> Named
-    ensures { result ≡ named sender_code code }
-{
-    match code {
-        80 => Named::Is(Module::Screen),
-        81 => Named::Is(Module::Keyboard),
-        82 => Named::Is(Module::Modem),
-        83 => Named::Is(Module::Socket),
-        _ => Named::Nobody,
-    }
-}
-
-fn ask(receiver: Named) -> Order
+fn ask(receiver: Option<Module>) -> Order
     ensures { result ≡ asking receiver }
 {
     match receiver {
-        Named::Is(receiver) => Order::Ask(receiver),
-        Named::Nobody => Order::Nothing,
+        Some(receiver) => Order::Ask(receiver),
+        None => Order::Nothing,
     }
 }
 
-fn link(receiver: Named, sender: Named, on: bool) -> Order
+fn link(receiver: Option<Module>, sender: Option<Module>, on: bool) -> Order
     ensures { result ≡ linking receiver sender on }
 {
-    match receiver {
-        Named::Is(receiver) => match sender {
-            Named::Is(sender) => Order::Link {
-                receiver,
-                sender,
-                on,
-            },
-            Named::Nobody => Order::Nothing,
+    match (receiver, sender) {
+        (Some(receiver), Some(sender)) => Order::Link {
+            receiver,
+            sender,
+            on,
         },
-        Named::Nobody => Order::Nothing,
+        _ => Order::Nothing,
     }
 }
 
@@ -91,21 +74,19 @@ fn link(receiver: Named, sender: Named, on: bool) -> Order
 pub fn pro2(first: u8, second: u8) -> Order
     ensures { result ≡ ordered_by_two first second }
 {
-    if first == 98 {
-        return ask(receiver(second));
+    match first {
+        98 => ask(named(RECEIVERS, second)),
+        _ => Order::Nothing,
     }
-    Order::Nothing
 }
 
 // PRO3: 6/1 sets and 6/0 clears the link from a sender to a receiver.
 pub fn pro3(first: u8, second: u8, third: u8) -> Order
     ensures { result ≡ ordered_by_three first second third }
 {
-    if first == 97 {
-        return link(receiver(second), sender(third), true);
+    match first {
+        97 => link(named(RECEIVERS, second), named(SENDERS, third), true),
+        96 => link(named(RECEIVERS, second), named(SENDERS, third), false),
+        _ => Order::Nothing,
     }
-    if first == 96 {
-        return link(receiver(second), sender(third), false);
-    }
-    Order::Nothing
 }

@@ -3,7 +3,7 @@
 ghost use Rattle.std.specs.Prelude.{◌≡◌, Bool, cond, ◌&&◌, not, List, [], ◌∷◌, ◌++◌, map, ℕ, ◌+◌, ◌/◌, ◌%◌, ◌<◌, length, get_or, take};
 ghost use Rattle.links_wiring.specs.declared.Module.{Module};
 ghost use Rattle.links_wiring.specs.declared.Module.TheVariants.{Modem, Socket};
-ghost use Rattle.links_wiring.specs.declared.Table.{Table};
+ghost use Rattle.links_wiring.specs.Each.{Table};
 ghost use Rattle.links_wiring.specs.Modules.{same, receiver_code, sender_code};
 ghost use Rattle.links_wiring.specs.Tables.{reaches};
 ghost use Rattle.links_replies.specs.Replies.{shown, status_of, weight_of, reply_of};

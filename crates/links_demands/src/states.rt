@@ -7,7 +7,7 @@ ghost use Rattle.links_replies.specs.Replies.{statuses_of};
 ghost use Rattle.links_sending.specs.Sending.{silence, part_of, FewIn};
 ghost use Rattle.links_hearing.specs.declared.ears.Ear.TheVariants.{Modem as EarModem, Socket as EarSocket};
 ghost use Rattle.links.specs.declared.Links.{Links};
-ghost use Rattle.links.specs.declared.Answer.TheVariants.{TooLarge, Broken};
+ghost use Rattle.links.specs.declared.Refusal.TheVariants.{TooLarge, Broken};
 ghost use Rattle.links.specs.States.{local_links, connected_links, in_range};
 ghost use Rattle.links.specs.Calls.{told, taken, refused, with_table, with_local, with_connected};
 ghost use Rattle.links.specs.Calls.{from_keyboard, from_modem, from_socket};

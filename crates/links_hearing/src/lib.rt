@@ -11,7 +11,7 @@ ghost use Rattle.links_hearing.specs.Hearing.{in_range, holds, does, begun, esca
 
 mod ears;
 
-pub use ears::Ear;
+pub use ears::{Ear, Sequences};
 use links_commands::Order;
 
 // An unfinished sequence.
@@ -36,16 +36,14 @@ pub struct Heard {
 }
 
 // Whether each code so far is at most 127.
+#[tactic(auto, unfolding(crate::specs::Hearing::in_range))]
 pub fn in_range(unfinished: Unfinished) -> bool
     ensures { result ≡ in_range unfinished }
 {
     match unfinished {
-        Unfinished::Free => true,
-        Unfinished::Escape => true,
-        Unfinished::Pro1 => true,
-        Unfinished::Pro2 => true,
+        Unfinished::Free | Unfinished::Escape => true,
+        Unfinished::Pro1 | Unfinished::Pro2 | Unfinished::Pro3 => true,
         Unfinished::Pro2With(first) => first <= 127,
-        Unfinished::Pro3 => true,
         Unfinished::Pro3With(first) => first <= 127,
         Unfinished::Pro3Both(first, second) => first <= 127 && second <= 127,
     }
@@ -94,6 +92,7 @@ fn escape(value: u8) -> Heard
 }
 
 // One value, after the sequence so far.
+#[tactic(auto, unfolding(crate::specs::Hearing::heard))]
 pub fn hear(unfinished: Unfinished, value: u8) -> Heard
     ensures { result ≡ heard unfinished value }
 {

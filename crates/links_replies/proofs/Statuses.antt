@@ -9,20 +9,23 @@ use lib.ListN.{length}
 use Rattle.values.specs.Large.{Values}
 use Rattle.links_wiring.specs.declared.Module.{Module}
 use Rattle.links_wiring.specs.declared.Module.TheVariants.{Screen, Keyboard, Modem, Socket}
-use Rattle.links_wiring.specs.declared.Table.{Table}
+use Rattle.links_wiring.specs.Each.{Row, Table}
 use Rattle.links_wiring.specs.Tables.{row, local_table, connected_table}
 use Rattle.links_wiring.proofs.Small.{receiver_small}
-use Rattle.links_replies.specs.Replies.{shown, summed, status_of, reply_of, statuses_of, weight_of}
+use Rattle.links_replies.specs.Replies.{shown, column_of, summed, status_of, reply_of, statuses_of, weight_of}
 
 -- ---- its bits
 
--- of the senders shown, in the order screen, keyboard, modem, socket
-bits : (a b c d : Bool)
-    → (summed (row a b c d) / 16 ≡ 4)
-    × (summed (row a b c d) / 1 % 2 ≡ cond a 1 0)
-    × (summed (row a b c d) / 2 % 2 ≡ cond b 1 0)
-    × (summed (row a b c d) / 4 % 2 ≡ cond c 1 0)
-    × (summed (row a b c d) / 8 % 2 ≡ cond d 1 0)
+-- column 4, and the senders shown: screen, keyboard, modem, socket
+abbrev Bits : Row → Type 0
+Bits w =
+    (summed w / 16 ≡ 4)
+    × (summed w / 1 % 2 ≡ cond w.screen 1 0)
+    × (summed w / 2 % 2 ≡ cond w.keyboard 1 0)
+    × (summed w / 4 % 2 ≡ cond w.modem 1 0)
+    × (summed w / 8 % 2 ≡ cond w.socket 1 0)
+
+bits : (a b c d : Bool) → Bits (row a b c d)
 bits true true true true = (refl, refl, refl, refl, refl)
 bits true true true false = (refl, refl, refl, refl, refl)
 bits true true false true = (refl, refl, refl, refl, refl)
@@ -40,17 +43,20 @@ bits false false true false = (refl, refl, refl, refl, refl)
 bits false false false true = (refl, refl, refl, refl, refl)
 bits false false false false = (refl, refl, refl, refl, refl)
 
+status_bits : (t : Table) (receiver : Module) → Bits (column_of t receiver)
+status_bits t r = bits (shown t r Screen) (shown t r Keyboard) (shown t r Modem) (shown t r Socket)
+
 pub status_column : (t : Table) (receiver : Module) → status_of t receiver / 16 ≡ 4
 unfolding status_of
-status_column t r = (bits (shown t r Screen) (shown t r Keyboard) (shown t r Modem) (shown t r Socket)).0
+status_column t r = (status_bits t r).0
 
 pub status_bit : (t : Table) (receiver sender : Module)
     → status_of t receiver / weight_of sender % 2 ≡ cond (shown t receiver sender) 1 0
 unfolding status_of
-status_bit t r Screen = (bits (shown t r Screen) (shown t r Keyboard) (shown t r Modem) (shown t r Socket)).1
-status_bit t r Keyboard = (bits (shown t r Screen) (shown t r Keyboard) (shown t r Modem) (shown t r Socket)).2
-status_bit t r Modem = (bits (shown t r Screen) (shown t r Keyboard) (shown t r Modem) (shown t r Socket)).3
-status_bit t r Socket = (bits (shown t r Screen) (shown t r Keyboard) (shown t r Modem) (shown t r Socket)).4
+status_bit t r Screen = (status_bits t r).1
+status_bit t r Keyboard = (status_bits t r).2
+status_bit t r Modem = (status_bits t r).3
+status_bit t r Socket = (status_bits t r).4
 
 -- ---- how large it is
 

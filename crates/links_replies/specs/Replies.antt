@@ -3,8 +3,7 @@
 use Rattle.std.specs.Prelude.{Bool, cond, ◌||◌, List, [], ◌∷◌, ℕ, ◌+◌}
 use Rattle.links_wiring.specs.declared.Module.{Module}
 use Rattle.links_wiring.specs.declared.Module.TheVariants.{Screen, Keyboard, Modem, Socket}
-use Rattle.links_wiring.specs.declared.Row.{Row}
-use Rattle.links_wiring.specs.declared.Table.{Table}
+use Rattle.links_wiring.specs.Each.{Row, Table}
 use Rattle.links_wiring.specs.Modules.{same, receiver_code}
 use Rattle.links_wiring.specs.Tables.{row, reaches}
 

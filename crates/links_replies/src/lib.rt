@@ -4,7 +4,6 @@
 #![tactic(auto)]
 
 ghost use Rattle.std.specs.Prelude.{◌≡◌, ◌≤◌};
-ghost use Rattle.links_wiring.specs.Modules.{receiver_code};
 ghost use Rattle.links_replies.specs.Replies.{column_of, weighed, summed, reply_of};
 
 use links_wiring::{Module, Row, Table};
@@ -13,32 +12,13 @@ use links_wiring::{Module, Row, Table};
 fn column(table: Table, receiver: Module) -> Row
     ensures { result ≡ column_of table receiver }
 {
-    match receiver {
-        Module::Screen => Row {
-            screen: true,
-            keyboard: table.keyboard.screen,
-            modem: table.modem.screen,
-            socket: table.socket.screen,
-        },
-        Module::Keyboard => Row {
-            screen: table.screen.keyboard,
-            keyboard: true,
-            modem: table.modem.keyboard,
-            socket: table.socket.keyboard,
-        },
-        Module::Modem => Row {
-            screen: table.screen.modem,
-            keyboard: table.keyboard.modem,
-            modem: true,
-            socket: table.socket.modem,
-        },
-        Module::Socket => Row {
-            screen: table.screen.socket,
-            keyboard: table.keyboard.socket,
-            modem: table.modem.socket,
-            socket: true,
-        },
-    }
+    let senders = Row {
+        screen: table.screen.of(receiver),
+        keyboard: table.keyboard.of(receiver),
+        modem: table.modem.of(receiver),
+        socket: table.socket.of(receiver),
+    };
+    senders.with(receiver, true)
 }
 
 fn weigh(on: bool, weight: u8) -> u8
@@ -59,23 +39,12 @@ fn sum(senders: Row) -> u8
     64 + socket + modem + keyboard + screen
 }
 
-// The code of a receiver: 5/8 to 5/B.
-fn code(receiver: Module) -> u8
-    ensures { result ≡ receiver_code receiver }
-{
-    match receiver {
-        Module::Screen => 88,
-        Module::Keyboard => 89,
-        Module::Modem => 90,
-        Module::Socket => 91,
-    }
-}
-
-// PRO3, 6/3, the receiver's code and its status.
+// PRO3, 6/3, the receiver's code, which is 5/8 to 5/B, and its status.
+#[tactic(auto, using(crate::proofs::Tags::tagged), unfolding(crate::specs::Replies::status_of, crate::specs::Replies::reply_of))]
 pub fn reply(table: Table, receiver: Module) -> [u8; 5]
     ensures { result ≡ reply_of table receiver }
 {
-    let code = code(receiver);
+    let code = 88 + receiver as u8;
     let status = sum(column(table, receiver));
     [27, 59, 99, code, status]
 }

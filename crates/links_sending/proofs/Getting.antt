@@ -5,14 +5,12 @@ use mathlib.Core.List.{List, [], ◌∷◌}
 use Prim.Native.Nat.{ℕ, ◌≤◌}
 use native.Mathlib.Omega.{arith}
 use lib.ListN.{length}
-use lib.Seq.{take-append_seam}
 use Rattle.laws.proofs.Computed.{chosen}
 use Rattle.values.specs.Large.{Values}
 use Rattle.values.proofs.Found.{values_none, values_cons}
 use Rattle.links_wiring.specs.declared.Module.{Module}
 use Rattle.links_wiring.specs.declared.Module.TheVariants.{Screen, Keyboard, Modem, Socket}
-use Rattle.links_wiring.specs.declared.Row.{Row}
-use Rattle.links_wiring.specs.declared.Table.{Table}
+use Rattle.links_wiring.specs.Each.{Row, Table}
 use Rattle.links_wiring.specs.Modules.{same}
 use Rattle.links_wiring.specs.Tables.{marked, reaches, NoneItself}
 use Rattle.links_replies.specs.Replies.{reply_of}
@@ -23,32 +21,33 @@ use Rattle.links_commands.specs.Commands.{SmallOrder}
 use Rattle.links_changes.specs.Linking.{linked, table_after}
 use Rattle.links_changes.proofs.Pairs.{linked_pairs}
 use Rattle.links_changes.proofs.Selves.{none_itself_after}
-use Rattle.links_sending.specs.declared.Bytes.{Bytes}
-use Rattle.links_sending.specs.Sending.{packed, bytes_of, to, nowhere, silence, only_to, receivers_for, bytes_for, sent_for}
+use Rattle.few.specs.declared.Few.{Few}
+use Rattle.few.specs.Bytes.{contents}
+use Rattle.few.proofs.Kept.{kept}
+use Rattle.links_wiring.specs.Each.{of}
+use Rattle.links_wiring.proofs.Parts.{of_with, all_of}
+use Rattle.links_sending.specs.Sending.{packed, to, nowhere, silence, only_to, receivers_for, bytes_for, sent_for}
 use Rattle.links_sending.specs.Sending.{obeyed}
 use Rattle.links_sending.specs.Sending.{part_of, gets, FewIn}
 use Rattle.links_sending.proofs.Counts.{count_few}
 
 -- ---- who gets it
 
-unpacked : (vs : List ℕ) → bytes_of (packed vs) ≡ vs
-unpacked vs = take-append_seam vs _
-
-part_of_lem : (w : Row) (b : Bytes) (r : Module) → part_of (to w b) r ≡ cond (marked w r) b (packed [])
+part_of_lem : (w : Row) (b : Few 5) (r : Module) → part_of (to w b) r ≡ cond (marked w r) b (packed [])
 part_of_lem w b Screen = refl
 part_of_lem w b Keyboard = refl
 part_of_lem w b Modem = refl
 part_of_lem w b Socket = refl
 
-given : (t : Bool) (vs : List ℕ) → bytes_of (cond t (packed vs) (packed [])) ≡ cond t vs []
-given true vs = unpacked vs
+given : (t : Bool) (vs : List ℕ) → contents (cond t (packed vs) (packed [])) ≡ cond t vs []
+given true vs = kept 5 vs
 given false vs = refl
 
 -- the receivers that are meant get the bytes, and the others nothing
 gets_sent : (t : Table) (from : Module) (o : Order) (r : Module)
     → gets (sent_for t from o) r ≡ cond (marked (receivers_for t from o) r) (bytes_for t o) []
 gets_sent t from o r =
-    ap bytes_of (part_of_lem (receivers_for t from o) (packed (bytes_for t o)) r)
+    ap contents (part_of_lem (receivers_for t from o) (packed (bytes_for t o)) r)
     ∙ given (marked (receivers_for t from o) r) (bytes_for t o)
 
 pub gets_nothing : (r : Module) → gets silence r ≡ []
@@ -58,22 +57,11 @@ gets_nothing Modem = refl
 gets_nothing Socket = refl
 
 only_marked : (m r : Module) → marked (only_to m) r ≡ same r m
-only_marked Screen Screen = refl
-only_marked Screen Keyboard = refl
-only_marked Screen Modem = refl
-only_marked Screen Socket = refl
-only_marked Keyboard Screen = refl
-only_marked Keyboard Keyboard = refl
-only_marked Keyboard Modem = refl
-only_marked Keyboard Socket = refl
-only_marked Modem Screen = refl
-only_marked Modem Keyboard = refl
-only_marked Modem Modem = refl
-only_marked Modem Socket = refl
-only_marked Socket Screen = refl
-only_marked Socket Keyboard = refl
-only_marked Socket Modem = refl
-only_marked Socket Socket = refl
+only_marked m r = of_with nowhere m true r ∙ go (same r m)
+  where
+    go : (t : Bool) → cond t true (of nowhere r) ≡ t
+    go true = refl
+    go false = all_of false r
 
 -- what is passed on goes by the links
 pub pass_goes : (t : Table) (from : Module) (v : ℕ) (r : Module)
@@ -127,27 +115,27 @@ still_none_itself t from o n = none_itself_after t o n
 -- ---- how much
 
 -- at most five bytes, none above 127
-Few : List ℕ → Type 0
-Few vs = (length vs ≤ 5) × Values vs
+AtMostFive : List ℕ → Type 0
+AtMostFive vs = (length vs ≤ 5) × Values vs
 
-few_reply : (t : Table) (receiver : Module) → Few (reply_of t receiver)
-unfolding Few
+few_reply : (t : Table) (receiver : Module) → AtMostFive (reply_of t receiver)
+unfolding AtMostFive
 few_reply t r = (omega (arith, reply_length t r), reply_small t r)
 
-few_bytes : (t : Table) (o : Order) → SmallOrder o → Few (bytes_for t o)
-unfolding Few
+few_bytes : (t : Table) (o : Order) → SmallOrder o → AtMostFive (bytes_for t o)
+unfolding AtMostFive
 few_bytes t Nothing s = (omega arith, values_none)
 few_bytes t (Pass v) s = (omega arith, values_cons v [] s values_none)
 few_bytes t (Pair v) s = (omega arith, values_cons 27 (v ∷ []) (omega arith) (values_cons v [] s values_none))
 few_bytes t (Link receiver sender on) s = few_reply t receiver
 few_bytes t (Ask receiver) s = few_reply t receiver
 
-few_packed : (vs : List ℕ) → Few vs → FewIn (packed vs)
-unfolding Few
-few_packed vs f = (count_few vs f.0, ap length (unpacked vs), subst⁻¹ Values (unpacked vs) f.1)
+few_packed : (vs : List ℕ) → AtMostFive vs → FewIn (packed vs)
+unfolding AtMostFive
+few_packed vs f = (count_few vs f.0, ap length (kept 5 vs), subst⁻¹ Values (kept 5 vs) f.1)
 
 few_none : FewIn (packed [])
-unfolding Few
+unfolding AtMostFive
 few_none = few_packed [] (omega arith, values_none)
 
 pub few_sent : (t : Table) (from : Module) (o : Order) → SmallOrder o

@@ -10,12 +10,11 @@ use Rattle.links_wiring.specs.Reading.{all_reached}
 use Rattle.links_replies.specs.Replies.{status_of, reply_of}
 use Rattle.links_commands.specs.declared.Order.TheVariants.{Pass, Pair, Link, Ask}
 use Rattle.links_changes.specs.Linking.{linked}
-use Rattle.links_sending.specs.declared.Bytes.{Bytes}
-use Rattle.links_sending.specs.declared.Sent.{Sent}
-use Rattle.links_sending.specs.Sending.{silence, obeyed}
+use Rattle.few.specs.declared.Few.{Few}
+use Rattle.links_sending.specs.Sending.{Sent, silence, obeyed}
 
 -- the five places and the count
-abbrev pub whole : Bytes → List ℕ
+abbrev pub whole : Few 5 → List ℕ
 whole b = b.count ∷ b.codes
 
 abbrev pub all_of : Sent → List (List ℕ)

@@ -1,3 +1,4 @@
 pub mod Written
 pub mod Selves
 pub mod Small
+pub mod Parts

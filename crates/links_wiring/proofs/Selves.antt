@@ -1,31 +1,21 @@
 -- No module is linked to itself: how that is tested, and where it holds. Assumes nothing.
-use mathlib.Core.Path.{◌≡◌, refl}
+use mathlib.Core.Path.{◌≡◌, refl, subst}
 use mathlib.Core.Bool.{Bool, true, false, ◌||◌}
 use Rattle.laws.proofs.Computed.{holds, fails}
 use Rattle.links_wiring.specs.declared.Module.{Module}
 use Rattle.links_wiring.specs.declared.Module.TheVariants.{Screen, Keyboard, Modem, Socket}
-use Rattle.links_wiring.specs.declared.Table.{Table}
+use Rattle.links_wiring.specs.Each.{Table}
 use Rattle.links_wiring.specs.Modules.{same}
+use Rattle.links_wiring.proofs.Parts.{same_true}
 use Rattle.links_wiring.specs.Tables.{reaches, self_linked, NoneItself, local_table, connected_table}
 
 -- a module that is reached is another one
 pub reached_apart : (t : Table) (m r : Module) → reaches t m m ≡ false → reaches t m r ≡ true → same r m ≡ false
-reached_apart t Screen Screen n y = absurd (fails n (holds y))
-reached_apart t Screen Keyboard n y = refl
-reached_apart t Screen Modem n y = refl
-reached_apart t Screen Socket n y = refl
-reached_apart t Keyboard Screen n y = refl
-reached_apart t Keyboard Keyboard n y = absurd (fails n (holds y))
-reached_apart t Keyboard Modem n y = refl
-reached_apart t Keyboard Socket n y = refl
-reached_apart t Modem Screen n y = refl
-reached_apart t Modem Keyboard n y = refl
-reached_apart t Modem Modem n y = absurd (fails n (holds y))
-reached_apart t Modem Socket n y = refl
-reached_apart t Socket Screen n y = refl
-reached_apart t Socket Keyboard n y = refl
-reached_apart t Socket Modem n y = refl
-reached_apart t Socket Socket n y = absurd (fails n (holds y))
+reached_apart t m r n y = go (same r m) (same_true r m)
+  where
+    go : (b : Bool) → (b ≡ true → r ≡ m) → b ≡ false
+    go true f = absurd (fails n (holds (subst (λ (x : Module). reaches t m x ≡ true) (f refl) y)))
+    go false f = refl
 
 -- ---- the test
 

@@ -1,3 +1,4 @@
+pub mod Each
 pub mod Modules
 pub mod Tables
 pub mod Reading

@@ -3,8 +3,7 @@
 use Rattle.std.specs.Prelude.{◌≡◌, Bool, false, ◌&&◌, ◌||◌, List, [], ◌∷◌}
 use Rattle.links_wiring.specs.declared.Module.{Module}
 use Rattle.links_wiring.specs.declared.Module.TheVariants.{Screen, Keyboard, Modem, Socket}
-use Rattle.links_wiring.specs.declared.Row.{Row}
-use Rattle.links_wiring.specs.declared.Table.{Table}
+use Rattle.links_wiring.specs.Each.{Row, Table, of}
 use Rattle.links_wiring.specs.Modules.{same}
 
 -- the receivers that one sender reaches, in the order screen, keyboard, modem, socket
@@ -12,16 +11,10 @@ abbrev pub row : Bool → Bool → Bool → Bool → Row
 row a b c d = record { screen = a; keyboard = b; modem = c; socket = d }
 
 abbrev pub row_of : Table → Module → Row
-row_of t Screen = t.screen
-row_of t Keyboard = t.keyboard
-row_of t Modem = t.modem
-row_of t Socket = t.socket
+row_of t sender = of t sender
 
 abbrev pub marked : Row → Module → Bool
-marked w Screen = w.screen
-marked w Keyboard = w.keyboard
-marked w Modem = w.modem
-marked w Socket = w.socket
+marked w receiver = of w receiver
 
 -- whether the sender's bytes reach the receiver
 abbrev pub reaches : Table → Module → Module → Bool

@@ -1,8 +1,0 @@
--- `links_hearing::Ear::own` meets its contract. Assumes nothing.
-use Rattle.links_hearing.proofs.ears.Ear.own.Goals as goal
-
-pub returns-in-Modem : goal.returns-in-Modem
-returns-in-Modem c = simp c.in-Modem.is
-
-pub returns-in-Socket : goal.returns-in-Socket
-returns-in-Socket c = simp c.in-Socket.is
