@@ -6,7 +6,7 @@ use Prim.Native.Nat.{ℕ, zero, suc, ◌-◌, ◌≤◌}
 use native.Mathlib.Omega.{arith}
 use lib.Dec.{eqb, lit≤}
 use lib.ListN.{replicate}
-use borrow.Author.Tests.{eq-eqb, ne_eqb}
+use borrow.Author.Tests.{ne_eqb}
 use Rattle.screen_cursor.specs.declared.Place.{Place}
 use Rattle.screen_cursor.specs.Places.{at}
 use Rattle.screen_sequences.specs.declared.Sequence.{Sequence}
@@ -108,28 +108,23 @@ us_screen s i j r c e n =
     both s _ i j r c e (omega (arith, n.lowest))
     (step_plan (with s (Row r)) c _ (us_there (with s (Row r)).pen r c refl n))
 
--- what entering row 0 leaves alone
+-- what a start at a place leaves alone
+left : (p q : Pen) (x : Place) → q ≡ start_at p x
+    → (q.here.place ≡ x) × (q.sequence ≡ p.sequence) × (q.last ≡ p.last) × (q.shown ≡ p.shown)
+left p q x e = (
+  ap (λ (y : Pen). y.here.place) e,
+  ap (λ (y : Pen). y.sequence) e,
+  ap (λ (y : Pen). y.last) e,
+  ap (λ (y : Pen). y.shown) e,
+)
+
+-- and so entering row 0
 entered : (p q : Pen) (x : Place) (t u : Bool)
     → q ≡ start_at (cond t (cond u p (keeping p)) p) x
     → (q.here.place ≡ x) × (q.sequence ≡ p.sequence) × (q.last ≡ p.last) × (q.shown ≡ p.shown)
-entered p q x true true e = (
-  ap (λ (y : Pen). y.here.place) e,
-  ap (λ (y : Pen). y.sequence) e,
-  ap (λ (y : Pen). y.last) e,
-  ap (λ (y : Pen). y.shown) e,
-)
-entered p q x true false e = (
-  ap (λ (y : Pen). y.here.place) e,
-  ap (λ (y : Pen). y.sequence) e,
-  ap (λ (y : Pen). y.last) e,
-  ap (λ (y : Pen). y.shown) e,
-)
-entered p q x false u e = (
-  ap (λ (y : Pen). y.here.place) e,
-  ap (λ (y : Pen). y.sequence) e,
-  ap (λ (y : Pen). y.last) e,
-  ap (λ (y : Pen). y.shown) e,
-)
+entered p q x true true e = left p q x e
+entered p q x true false e = left (keeping p) q x e
+entered p q x false u e = left p q x e
 
 pub us_starts : (s : Screen) (i j r c : ℕ) → (s.pen.sequence ≡ Separator → ⊥) → Names r c
     → let t = advanced_by s (addressing i j r c) in Starts s t (at (r - 64) (c - 64)) × (t.cells ≡ s.cells)

@@ -7,19 +7,18 @@ use native.Mathlib.Omega.{arith}
 use native.Mathlib.Nat.{zero-lt-suc}
 use lib.ListN.{length}
 use borrow.Author.Tests.{lt-ltb, le-ltb}
-use Rattle.screen_answers.specs.declared.Answer.{Answer}
-use Rattle.screen_answers.specs.declared.Answer.TheVariants.{Taken, TooLarge, Broken}
-use Rattle.screen_answers.specs.Answers.{told}
+use Rattle.std.specs.Prelude.{Ok, Err}
+use Rattle.screen_answers.specs.declared.Refusal.TheVariants.{TooLarge, Broken}
+use Rattle.screen_answers.specs.Answers.{Answer, Taken, told}
 use Rattle.screen_answers.proofs.Given.{answer_told}
 use Rattle.values.specs.Large.{Values, first_large}
 use Rattle.values.proofs.Found.{none_large, values_append}
 use Rattle.screen_page.specs.declared.Screen.{Screen}
 use Rattle.screen_page.specs.Ranges.{broken, InScreen}
 use Rattle.screen_page.proofs.Stays.{unbroken}
-use Rattle.screen.specs.declared.Stepped.{Stepped}
 use Rattle.screen.specs.declared.Ran.{Ran}
 use Rattle.screen.specs.Screens.{advanced, advanced_by}
-use Rattle.screen.specs.Calls.{left_by, answered, steps_to, stepped, runs_to, ran, run_told}
+use Rattle.screen.specs.Calls.{left_by, answered, stepped, runs_to, ran, run_told}
 use Rattle.screen.specs.Claims.{singly}
 use Rattle.screen.proofs.Stays.{advanced_in}
 use Rattle.screen.proofs.Steps.{by_append}
@@ -39,27 +38,27 @@ step_told s b = answer_told (broken s) (first_large (b ∷ [])) 1
 
 -- ---- refusals
 
-pub step_broken : (s : Screen) (b : ℕ) → broken s ≡ true → stepped s b ≡ steps_to s Broken
+pub step_broken : (s : Screen) (b : ℕ) → broken s ≡ true → stepped s b ≡ runs_to s (Err Broken)
 unfolding stepped
 step_broken s b e = simp e
 
-pub step_large : (s : Screen) (b : ℕ) → broken s ≡ false → 127 < b → stepped s b ≡ steps_to s (TooLarge 0)
+pub step_large : (s : Screen) (b : ℕ) → broken s ≡ false → 127 < b → stepped s b ≡ runs_to s (Err (TooLarge 0))
 unfolding stepped first_large
 step_large s b e h = simp (e, le-ltb b 128 h)
 
-pub run_broken : (s : Screen) (vs : List ℕ) → broken s ≡ true → ran s vs ≡ runs_to s Broken
+pub run_broken : (s : Screen) (vs : List ℕ) → broken s ≡ true → ran s vs ≡ runs_to s (Err Broken)
 unfolding ran
 run_broken s vs e = simp e
 
 -- ---- steps
 
-pub step_taken : (s : Screen) (b : ℕ) → broken s ≡ false → b ≤ 127 → stepped s b ≡ steps_to (advanced s b) Taken
+pub step_taken : (s : Screen) (b : ℕ) → broken s ≡ false → b ≤ 127 → stepped s b ≡ runs_to (advanced s b) Taken
 unfolding stepped first_large
 step_taken s b e h = simp (e, lt-ltb b 128 (omega (arith, h)))
 
 pub stepped_in : (s : Screen) → InScreen s → (b : ℕ) → b ≤ 127 → InScreen (stepped s b).screen
 stepped_in s h b l =
-    subst InScreen (sym (ap (λ (a : Stepped). a.screen) (step_taken s b (unbroken h) l))) (advanced_in b l h)
+    subst InScreen (sym (ap (λ (a : Ran). a.screen) (step_taken s b (unbroken h) l))) (advanced_in b l h)
 
 pub run_taken : (s : Screen) (vs : List ℕ) → broken s ≡ false → Values vs → ran s vs ≡ runs_to (advanced_by s vs) Taken
 run_taken s vs e h = sym (ran_taken s vs e (omega (arith, none_large vs h)))
@@ -70,7 +69,7 @@ singly_by s [] h v = refl
 singly_by s (b ∷ bs) h v =
     let l : b ≤ 127 = omega (arith, v 0 (zero-lt-suc (length bs))) in
     singly_by (advanced s b) bs (advanced_in b l h) (λ i k. v (suc i) (omega (arith, k)))
-    ∙ ap (λ (x : Screen). singly x bs) (sym (ap (λ (a : Stepped). a.screen) (step_taken s b (unbroken h) l)))
+    ∙ ap (λ (x : Screen). singly x bs) (sym (ap (λ (a : Ran). a.screen) (step_taken s b (unbroken h) l)))
 
 -- a piece of values of 0 to 127 is its single steps
 pub run_singly : (s : Screen) (vs : List ℕ) → InScreen s → Values vs → ran s vs ≡ runs_to (singly s vs) Taken
@@ -93,9 +92,8 @@ unfolding ran advanced_by
 ran_none s = kept (answered s [])
   where
     kept : (a : Answer) → left_by a s s ≡ s
-    kept Taken = refl
-    kept (TooLarge i) = refl
-    kept Broken = refl
+    kept (Ok u) = refl
+    kept (Err e) = refl
 
 -- a run over some values and then others is the run over the first, then over the others
 pub run_parts : (s : Screen) (us vs : List ℕ) → InScreen s → Values us → Values vs

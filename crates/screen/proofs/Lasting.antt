@@ -1,10 +1,9 @@
 -- What no value changes: inverse is off while G1 is current, and a last character once written is there. Assumes nothing.
-use mathlib.Core.Path.{◌≡◌, refl, sym, ap, ◌∙◌, subst⁻¹}
+use mathlib.Core.Path.{◌≡◌, sym, ap, ◌∙◌, subst⁻¹}
 use mathlib.Core.List.{List, [], ◌∷◌}
 use Prim.Native.Nat.{ℕ}
-use Rattle.screen_answers.specs.declared.Answer.{Answer}
-use Rattle.screen_answers.specs.declared.Answer.TheVariants.{Taken, TooLarge, Broken}
-use Rattle.screen_pen.specs.declared.Last.TheVariants.{Never}
+use Rattle.std.specs.Prelude.{None, Ok, Err}
+use Rattle.screen_answers.specs.Answers.{Answer}
 use Rattle.screen_pen.specs.declared.Pen.{Pen}
 use Rattle.screen_planning.specs.Planning.{ordered}
 use Rattle.screen_planning.specs.Lasts.{last_after}
@@ -25,9 +24,8 @@ step_last s b = ap (λ (p : Pen). p.last) (step_pen s b) ∙ value_last s.pen b
 
 -- a screen handed back is the one handed in or the one to come
 either : (P : Screen → Type 0) (a : Answer) (s x : Screen) → P s → P x → P (left_by a s x)
-either P Taken s x h k = k
-either P (TooLarge i) s x h k = h
-either P Broken s x h k = h
+either P (Ok u) s x h k = k
+either P (Err e) s x h k = h
 
 -- a property that every value leaves to a screen
 module _ (P : Screen → Type 0) (f : (s : Screen) (b : ℕ) → P s → P (advanced s b)) where
@@ -62,7 +60,7 @@ run_upright s vs h = run_leaves AllUpright value_leaves s vs h
 
 -- there is a last character
 abbrev Written : Screen → Type 0
-Written s = s.pen.last ≡ Never → ⊥
+Written s = s.pen.last ≡ None → ⊥
 
 value_written : (s : Screen) (b : ℕ) → Written s → Written (advanced s b)
 value_written s b f e = f (value_never s.pen b (sym (ap (λ (p : Pen). p.last) (step_pen s b)) ∙ e))

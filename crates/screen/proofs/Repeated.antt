@@ -1,17 +1,15 @@
 -- A character written, REP, SS2, and C0 codes within a sequence. Assumes nothing.
 use mathlib.Core.Path.{◌≡◌, refl, sym, ap, ◌∙◌}
 use Prim.Native.Nat.{ℕ, ◌-◌, ◌/◌, ◌≤◌, ◌<◌}
-use Rattle.laws.proofs.Computed.{holds, fails}
+use Rattle.std.specs.Prelude.{Option, Some, None}
 use Rattle.screen_sequences.specs.declared.Sequence.{Sequence}
 use Rattle.screen_sequences.specs.declared.Sequence.TheVariants.{Free, Separator, Repeat, Single}
 use Rattle.screen_sequences.specs.declared.Order.TheVariants.{Skip, Second, Again}
-use Rattle.screen_sequences.specs.Sequences.{is_free, is_separator, does, control, heard}
+use Rattle.screen_sequences.specs.Sequences.{is_free, does, control, heard}
 use Rattle.screen_sequences.proofs.Codes.{heard_control, heard_dropped, heard_repeat, heard_low}
 use Rattle.screen_sequences.proofs.Codes.{heard_second, heard_swallowed}
 use Rattle.screen_cells.specs.declared.Character.{Character}
 use Rattle.screen_cells.specs.Characters.{character}
-use Rattle.screen_pen.specs.declared.Last.{Last}
-use Rattle.screen_pen.specs.declared.Last.TheVariants.{Never, Was}
 use Rattle.screen_planning.specs.declared.Planned.{Planned}
 use Rattle.screen_planning.specs.Changing.{with_sequence}
 use Rattle.screen_planning.specs.Obeying.{again, obeyed}
@@ -45,14 +43,14 @@ text_step s b e h = step_plan s b _ (plan_text s.pen b (ap is_free e) h)
 -- ---- REP
 
 -- n from 4/0: the last character, n minus 64 times
-pub again_step : (s : Screen) (c : Character) (n : ℕ) → s.pen.sequence ≡ Repeat → s.pen.last ≡ Was c → 64 ≤ n
+pub again_step : (s : Screen) (c : Character) (n : ℕ) → s.pen.sequence ≡ Repeat → s.pen.last ≡ Some c → 64 ≤ n
     → advanced s n ≡ written_times (ended s) c (n - 64)
 unfolding obeyed applied
 again_step s c n e l h =
     step_plan s n _
     (plan_heard s.pen n (does (Again (n - 64)))
     (ap (λ (q : Sequence). heard q n) e ∙ heard_repeat n h)
-    ∙ ap (λ (x : Last). again (with_sequence s.pen Free) x (n - 64)) l)
+    ∙ ap (λ (x : Option Character). again (with_sequence s.pen Free) x (n - 64)) l)
 
 -- n from 2/0 to 3/F, or no last character: the sequence ends
 pub low_step : (s : Screen) (n : ℕ) → s.pen.sequence ≡ Repeat → 32 ≤ n → n < 64 → advanced s n ≡ ended s
@@ -62,14 +60,14 @@ low_step s n e h k =
     (plan_heard s.pen n (does Skip)
     (ap (λ (q : Sequence). heard q n) e ∙ heard_low n h k))
 
-pub never_step : (s : Screen) (n : ℕ) → s.pen.sequence ≡ Repeat → s.pen.last ≡ Never → 64 ≤ n
+pub never_step : (s : Screen) (n : ℕ) → s.pen.sequence ≡ Repeat → s.pen.last ≡ None → 64 ≤ n
     → advanced s n ≡ ended s
 unfolding obeyed applied
 never_step s n e l h =
     step_plan s n _
     (plan_heard s.pen n (does (Again (n - 64)))
     (ap (λ (q : Sequence). heard q n) e ∙ heard_repeat n h)
-    ∙ ap (λ (x : Last). again (with_sequence s.pen Free) x (n - 64)) l)
+    ∙ ap (λ (x : Option Character). again (with_sequence s.pen Free) x (n - 64)) l)
 
 -- ---- SS2
 
@@ -90,7 +88,7 @@ swallowed_step s b e h f =
 -- ---- a C0 code within a sequence
 
 free_open : Free ≡ Separator → ⊥
-free_open e = fails refl (holds (ap is_separator e))
+free_open e = cc
 
 -- it acts as with nothing unfinished
 pub control_step : (s : Screen) (b : ℕ) → (s.pen.sequence ≡ Separator → ⊥) → 1 ≤ b → b ≤ 31

@@ -1,6 +1,6 @@
 -- Row 0: LF there brings back what stood just before the US that entered it. Assumes nothing.
 use mathlib.Core.Path.{◌≡◌, refl, ap, ◌∙◌}
-use mathlib.Core.List.{List, [], ◌∷◌}
+use mathlib.Core.List.{List}
 use Prim.Native.Nat.{ℕ, zero, suc, ◌-◌, ◌≤◌}
 use lib.Dec.{lit≤}
 use Rattle.screen_cursor.specs.Places.{at}

@@ -8,6 +8,7 @@ use lib.Dec.{eqb}
 use lib.ListN.{length, length-set, set, get_or}
 use lib.Seq.{get_or-set_same, get_or-set_other}
 use borrow.Author.Tests.{eqb-true, eqb-false}
+use Rattle.std.specs.Prelude.{Some}
 use Rattle.screen_cursor.specs.declared.Place.{Place}
 use Rattle.screen_cursor.specs.Places.{On, index_of}
 use Rattle.screen_cursor.proofs.Tested.{index_low}
@@ -21,8 +22,6 @@ use Rattle.screen_writing.specs.Writing.{after_writing}
 use Rattle.screen_writing.specs.Having.{Has, AlikeButZone}
 use Rattle.screen_writing.proofs.Having.{written_has, written_alike}
 use Rattle.screen_writing.proofs.Twice.{written_twice}
-use Rattle.screen_pen.specs.declared.Last.TheVariants.{Was}
-use Rattle.screen_pen.specs.declared.Pen.{Pen}
 use Rattle.screen_pen.specs.Strokes.{stroke}
 use Rattle.screen_page.specs.declared.Screen.{Screen}
 use Rattle.screen_page.specs.Pages.{cell_at}
@@ -54,7 +53,7 @@ character_there s c h =
 
 -- and it moves the cursor right, is the last character, and leaves all but the grounds
 pub character_leaves : (s : Screen) (c : Character)
-    → ((written s c).pen.here.place ≡ right_of s.pen.here.place) × ((written s c).pen.last ≡ Was c)
+    → ((written s c).pen.here.place ≡ right_of s.pen.here.place) × ((written s c).pen.last ≡ Some c)
     × AlikeButZone s.pen.here.attributes (written s c).pen.here.attributes
 unfolding written
 character_leaves s c = (refl, refl, written_alike s.pen.here.attributes c)
@@ -150,7 +149,7 @@ module _ (s : Screen) (c : Character) (h : On s.pen.here.place) (l : length s.ce
 
 -- each of the n minus 64 places that REP n writes holds the last character
 pub again_there : (s : Screen) (c : Character) (n : ℕ) (x : Place) → InScreen s → s.pen.sequence ≡ Repeat
-    → s.pen.last ≡ Was c → 64 ≤ n → Among x (onwards (n - 64) s.pen.here.place)
+    → s.pen.last ≡ Some c → 64 ≤ n → Among x (onwards (n - 64) s.pen.here.place)
     → Has (cell_at (advanced s n) x) c s.pen.here.attributes (advanced s n).pen.here.attributes.zone.ground
 again_there s c n x h q e k m =
     subst⁻¹ (λ (t : Screen). Has (cell_at t x) c s.pen.here.attributes t.pen.here.attributes.zone.ground)

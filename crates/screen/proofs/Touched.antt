@@ -9,6 +9,7 @@ use lib.Dec.{eqb, lit≤}
 use lib.ListN.{get_or}
 use lib.Seq.{get_or-set_other}
 use borrow.Author.Tests.{eqb-true, eqb-false}
+use Rattle.std.proofs.Math.Nat.{pos_of_ne-zero}
 use Rattle.laws.proofs.Computed.{each, holds, fails}
 use Rattle.screen_cursor.specs.declared.Place.{Place}
 use Rattle.screen_cursor.specs.Places.{at, On}
@@ -133,12 +134,8 @@ by_row s x true h k e =
     row_0_kept s.cells h.thousand (index_of x) blank_of
     (omega (arith, eqb-true x.row 0 e, k.low, k.high))
 by_row s x false h k e =
-    let r : 1 ≤ x.row = not_zero x.row (eqb-false x.row 0 e) in
+    let r : 1 ≤ x.row = pos_of_ne-zero (eqb-false x.row 0 e) in
     others_blank s.cells h.thousand (index_of x) blank_of (omega (arith, r, k.low)) (index_low k)
-  where
-    not_zero : (n : ℕ) → (n ≡ 0 → ⊥) → 1 ≤ n
-    not_zero zero f = absurd (f refl)
-    not_zero (suc n) f = omega arith
 
 -- FF, not after SEP: row 0 as it was, every other cell blank
 pub ff_cell : (s : Screen) (b : ℕ) (x : Place) → InScreen s → On x → clears s.pen.sequence b ≡ true

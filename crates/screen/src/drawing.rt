@@ -16,15 +16,11 @@ use screen_sequences::Sequence;
 fn is_other(pen: Pen, value: u8) -> bool
     ensures { result ≡ is_other pen value }
 {
-    let sequence = pen.sequence;
-    let Sequence::Free = sequence else {
-        return true;
-    };
-    value < 32
+    !matches!(pen.sequence, Sequence::Free) || value < 32
 }
 
-// Each value leaves a character to be stored so many times: itself once where it is nothing but a character, as `plan`
-// would say too, and else what is planned for it, none for most.
+// Each value asks what is planned for it, nothing for most, or itself once where it is nothing but a character, as
+// `plan` would say too.
 pub(crate) fn advance(start: Screen, values: &[u8]) -> Screen
     requires in_range { in_range start ≡ true }
     requires values { Values values.now }
@@ -32,41 +28,30 @@ pub(crate) fn advance(start: Screen, values: &[u8]) -> Screen
 {
     let mut screen = start;
     let mut pen = start.pen;
-    let mut i: usize = 0;
-    while i < values.len() {
-        let value = values[i];
-        i += 1;
-        let set = pen.here.attributes.set;
-        let mut character = Character { set, code: value };
-        let mut times: u8 = 1;
-        if is_other(pen, value) {
-            let planned = plan(pen, value);
+    for value in values {
+        let code = *value;
+        let asked = if is_other(pen, code) {
+            let planned = plan(pen, code);
             pen = planned.pen;
-            let asked = planned.asked;
-            match asked {
-                Asked::Nothing => times = 0,
-                Asked::Blank => {
-                    let old = screen.cells;
-                    let cells = screen_sheet::clear(old);
-                    screen = Screen { cells, pen };
-                    times = 0;
-                }
-                Asked::Put {
-                    character: other,
-                    times: more,
-                } => {
-                    character = other;
-                    times = more;
+            planned.asked
+        } else {
+            let set = pen.here.attributes.set;
+            Asked::Put {
+                character: Character { set, code },
+                times: 1,
+            }
+        };
+        match asked {
+            Asked::Nothing => {}
+            Asked::Blank => screen.cells = screen_sheet::clear(screen.cells),
+            Asked::Put { character, times } => {
+                for _ in 0..times {
+                    let at = pen.here.place.index();
+                    let stroke = pen.write(character);
+                    screen.cells[at] = stroke.cell;
+                    pen = stroke.pen;
                 }
             }
-        }
-        while 0 < times {
-            let at = pen.here.place.index();
-            let stroke = pen.write(character);
-            let cell = stroke.cell;
-            screen.cells[at] = cell;
-            pen = stroke.pen;
-            times -= 1;
         }
     }
     screen.pen = pen;

@@ -11,30 +11,24 @@ ghost use Rattle.screen.specs.Calls.{stepped, ran};
 mod drawing;
 
 use drawing::advance;
-pub use screen_answers::Answer;
+pub use screen_answers::Refusal;
 use screen_answers::answer_to;
 use screen_page::Screen;
 
-#[derive(Clone, Copy)]
-pub struct Stepped {
-    pub screen: Screen,
-    pub answer: Answer,
-}
-
+// The screen is handed back on a refusal too (`each_call_gives_its_number` of `screen_demands`), so it stands beside the
+// answer and not within it.
 #[derive(Clone, Copy)]
 pub struct Ran {
     pub screen: Screen,
-    pub answer: Answer,
+    pub answer: Result<(), Refusal>,
 }
 
 // One value.
-pub fn step(screen: Screen, value: u8) -> Stepped
+#[tactic(auto, unfolding(crate::specs::Screens::advanced_by, crate::specs::Calls::ran, crate::specs::Calls::stepped))]
+pub fn step(screen: Screen, value: u8) -> Ran
     ensures { result ≡ stepped screen value }
 {
-    let ran = run(screen, &[value]);
-    let answer = ran.answer;
-    let screen = ran.screen;
-    Stepped { screen, answer }
+    run(screen, &[value])
 }
 
 // A piece of values: all of them or, where the state is broken or a value is above 127, none.
@@ -44,9 +38,9 @@ pub fn run(screen: Screen, values: &[u8]) -> Ran
     let broken = screen.is_broken();
     let at = values::first_large(values);
     let answer = answer_to(broken, at, values.len());
-    let Answer::Taken = answer else {
+    if answer.is_err() {
         return Ran { screen, answer };
-    };
+    }
     let screen = advance(screen, values);
     Ran { screen, answer }
 }

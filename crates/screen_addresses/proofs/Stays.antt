@@ -6,15 +6,15 @@ use Prim.Native.Nat.{ℕ, ◌-◌}
 use native.Mathlib.Omega.{arith}
 use lib.Dec.{leb}
 use borrow.Author.Tests.{leb-true}
+use Rattle.std.specs.Prelude.{Option, Some, None}
+use Rattle.screen_cursor.specs.declared.Place.{Place}
 use Rattle.laws.proofs.Computed.{each, chosen}
 use Rattle.screen_cursor.specs.Places.{at, On}
-use Rattle.screen_addresses.specs.declared.Address.{Address}
-use Rattle.screen_addresses.specs.declared.Address.TheVariants.{Nowhere, There}
 use Rattle.screen_addresses.specs.Addressing.{good, addressed}
 
-abbrev pub Leads : Address → Type 0
-Leads Nowhere = Unit {0}
-Leads (There p) = On p
+abbrev pub Leads : Option Place → Type 0
+Leads None = Unit {0}
+Leads (Some p) = On p
 
 pub address_on : (r c : ℕ) → Leads (addressed r c)
 address_on r c = chosen Leads (good r c) there (λ e. tt)

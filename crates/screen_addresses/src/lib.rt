@@ -9,32 +9,16 @@ ghost use Rattle.screen_addresses.specs.Addressing.{addressed};
 
 use screen_cursor::Place;
 
-// Where US and its two codes lead.
-#[derive(Clone, Copy)]
-pub enum Address {
-    Nowhere,
-    There(Place),
-}
-
-// The place that US names by a code for the row and one for the column.
-pub fn locate(row: u8, column: u8) -> Address
+// The place that US names by a code for the row and one for the column, if they name one.
+pub fn locate(row: u8, column: u8) -> Option<Place>
     ensures { result ≡ addressed row column }
 {
-    if row < 64 {
-        return Address::Nowhere;
+    if (64..=88).contains(&row) && (65..=104).contains(&column) {
+        Some(Place {
+            row: row - 64,
+            column: column - 64,
+        })
+    } else {
+        None
     }
-    if 88 < row {
-        return Address::Nowhere;
-    }
-    if column < 65 {
-        return Address::Nowhere;
-    }
-    if 104 < column {
-        return Address::Nowhere;
-    }
-    let place = Place {
-        row: row - 64,
-        column: column - 64,
-    };
-    Address::There(place)
 }

@@ -6,25 +6,25 @@
 ghost use Rattle.std.specs.Prelude.{◌≡◌};
 ghost use Rattle.screen_answers.specs.Answers.{answer_to};
 
-// What a call answers: the paper's 0, 2 and 5.
+// Why a call is refused: the paper's 2 and 5. What is taken has its 0.
 #[derive(Clone, Copy)]
-pub enum Answer {
-    Taken,
+pub enum Refusal {
     // The lowest place of a value above 127, counted from 0.
     TooLarge(usize),
     Broken,
 }
 
-// The answer to a call with so many values: `at` is the lowest place of one that is too large, or `count` where none
-// is.
-pub fn answer_to(broken: bool, at: usize, count: usize) -> Answer
+// The answer to a call with so many values: `at` is the lowest place of one that is too large, or not below `count`. It
+// is a number and no Option, as `values::first_large` gives one: `each_call_gives_its_number` of `screen_demands` has it
+// so, by its clause `large`.
+pub fn answer_to(broken: bool, at: usize, count: usize) -> Result<(), Refusal>
     ensures { result ≡ answer_to broken at count }
 {
     if broken {
-        return Answer::Broken;
+        return Err(Refusal::Broken);
     }
     if at < count {
-        return Answer::TooLarge(at);
+        return Err(Refusal::TooLarge(at));
     }
-    Answer::Taken
+    Ok(())
 }

@@ -1,13 +1,13 @@
 -- Attributes in so many words, for what is worked by hand: no word of specs/ stands in them. Assumes nothing.
 use mathlib.Core.Bool.{true, false}
 use Prim.Native.Nat.{ℕ}
-use Rattle.screen_attributes.specs.declared.Waiting.TheVariants.{Nothing, Ground}
+use Rattle.std.specs.Prelude.{Some, None}
 use Rattle.screen_attributes.specs.declared.Attributes.{Attributes}
 
 -- set s, ink i, ground g; none waits, no flash, not inverse
 abbrev pub those : ℕ → ℕ → ℕ → Attributes
 those s i g =
-    record { set = s; ink = i; zone = record { ground = g; waiting = Nothing }; flash = false; inverse = false }
+    record { set = s; ink = i; zone = record { ground = g; waiting = None }; flash = false; inverse = false }
 
 -- with ground x waiting
 abbrev pub awaiting : ℕ → Attributes → Attributes
@@ -15,7 +15,7 @@ awaiting x a =
     record {
       set = a.set;
       ink = a.ink;
-      zone = record { ground = a.zone.ground; waiting = Ground x };
+      zone = record { ground = a.zone.ground; waiting = Some x };
       flash = a.flash;
       inverse = a.inverse;
     }

@@ -4,9 +4,8 @@ use mathlib.Core.Bool.{true}
 use mathlib.Core.List.{[], ◌∷◌}
 use lib.Dec.{leb, lit≤}
 use borrow.Author.Tests.{leb-true, le-leb}
+use Rattle.std.specs.Prelude.{Option, Some, None, ℕ}
 use Rattle.laws.proofs.Computed.{each}
-use Rattle.screen_attributes.specs.declared.Waiting.{Waiting}
-use Rattle.screen_attributes.specs.declared.Waiting.TheVariants.{Nothing, Ground}
 use Rattle.screen_attributes.specs.declared.Zone.{Zone}
 use Rattle.screen_attributes.specs.declared.Attributes.{Attributes}
 use Rattle.screen_attributes.specs.Attributing.{start_of, shifted_out, shifted_in}
@@ -14,13 +13,13 @@ use Rattle.screen_attributes.specs.Within.{good_waiting, good_zone, good, InWait
 
 -- ---- the test is the ranges
 
-waiting_true : (w : Waiting) → InWaiting w → good_waiting w ≡ true
-waiting_true Nothing h = refl
-waiting_true (Ground g) h = le-leb g 7 h
+waiting_true : (w : Option ℕ) → InWaiting w → good_waiting w ≡ true
+waiting_true None h = refl
+waiting_true (Some g) h = le-leb g 7 h
 
-true_waiting : (w : Waiting) → good_waiting w ≡ true → InWaiting w
-true_waiting Nothing e = tt
-true_waiting (Ground g) e = leb-true g 7 e
+true_waiting : (w : Option ℕ) → good_waiting w ≡ true → InWaiting w
+true_waiting None e = tt
+true_waiting (Some g) e = leb-true g 7 e
 
 zone_true : {z : Zone} → InZone z → good_zone z ≡ true
 zone_true {z} h = simp (le-leb _ _ h.ground, waiting_true z.waiting h.waiting)

@@ -2,13 +2,13 @@
 use mathlib.Core.Path.{◌≡◌, refl}
 use mathlib.Core.Bool.{false}
 use mathlib.Core.List.{List, [], ◌∷◌}
-use Rattle.screen_attributes.specs.declared.Waiting.TheVariants.{Nothing}
+use Rattle.std.specs.Prelude.{None}
 use Rattle.screen_attributes.specs.declared.Attributes.{Attributes}
 use Rattle.screen_attributes.specs.Attributing.{start_of, shifted_out, shifted_in}
 use Rattle.screen_attributes.proofs.Literal.{those, awaiting, flashing, inverted}
 
 -- "Current attributes at the start: set G0, ink 7, ground 0, none waiting, no flash, not inverse"
-pub start_is : (start_of.set ≡ 0) × (start_of.ink ≡ 7) × (start_of.zone.ground ≡ 0) × (start_of.zone.waiting ≡ Nothing)
+pub start_is : (start_of.set ≡ 0) × (start_of.ink ≡ 7) × (start_of.zone.ground ≡ 0) × (start_of.zone.waiting ≡ None)
     × (start_of.flash ≡ false) × (start_of.inverse ≡ false)
 start_is = (refl, refl, refl, refl, refl, refl)
 

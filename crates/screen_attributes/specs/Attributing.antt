@@ -1,12 +1,11 @@
 -- The attributes in force, and SO and SI (01, "Screen cells"). Assumes nothing.
-use Rattle.std.specs.Prelude.{◌≡◌, ℕ, false}
-use Rattle.screen_attributes.specs.declared.Waiting.TheVariants.{Nothing}
+use Rattle.std.specs.Prelude.{None, ◌≡◌, ℕ, false}
 use Rattle.screen_attributes.specs.declared.Zone.{Zone}
 use Rattle.screen_attributes.specs.declared.Attributes.{Attributes}
 
 -- "ground 0, none waiting"
 abbrev pub start_zone : Zone
-start_zone = let ground : ℕ = 0 in record { ground = ground; waiting = Nothing }
+start_zone = let ground : ℕ = 0 in record { ground = ground; waiting = None }
 
 -- "Current attributes at the start: set G0, ink 7, ground 0, none waiting, no flash, not inverse"
 abbrev pub start_of : Attributes

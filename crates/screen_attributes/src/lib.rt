@@ -9,21 +9,16 @@
 ghost use Rattle.std.specs.Prelude.{◌≡◌};
 ghost use Rattle.screen_attributes.specs.Attributing.{start_of, shifted_out, shifted_in};
 
-// A ground that waits for the character that takes it.
-#[derive(Clone, Copy)]
-pub enum Waiting {
-    Nothing,
-    Ground(u8),
-}
-
 // What is serial: it is in force from the character that takes it on. Colours are 0 to 7.
 #[derive(Clone, Copy)]
 pub struct Zone {
     pub ground: u8,
-    pub waiting: Waiting,
+    // A ground that waits for the character that takes it.
+    pub waiting: Option<u8>,
 }
 
-// Those in force. Sets 0 and 1 are G0 and G1; colours are 0 to 7.
+// Those in force. Sets 0 and 1 are G0 and G1; colours are 0 to 7. Numbers and no enums: `in_range` of the crate
+// `screen_ranges` answers for any.
 #[derive(Clone, Copy)]
 pub struct Attributes {
     pub set: u8,
@@ -42,7 +37,7 @@ pub fn start() -> Attributes
         ink: 7,
         zone: Zone {
             ground: 0,
-            waiting: Waiting::Nothing,
+            waiting: None,
         },
         flash: false,
         inverse: false,
@@ -51,19 +46,20 @@ pub fn start() -> Attributes
 
 impl Attributes {
     // SO.
-    pub fn shift_out(mut self) -> Attributes
+    pub fn shift_out(self) -> Attributes
         ensures { result ≡ shifted_out self }
     {
-        self.set = 1;
-        self.inverse = false;
-        self
+        Attributes {
+            set: 1,
+            inverse: false,
+            ..self
+        }
     }
 
     // SI.
-    pub fn shift_in(mut self) -> Attributes
+    pub fn shift_in(self) -> Attributes
         ensures { result ≡ shifted_in self }
     {
-        self.set = 0;
-        self
+        Attributes { set: 0, ..self }
     }
 }

@@ -1,39 +1,16 @@
 -- Cells are the same exactly where they are equal. Assumes nothing.
 use mathlib.Core.Path.{◌≡◌, refl, sym, ap, ap₂, ◌∙◌}
-use mathlib.Core.Bool.{Bool, true, false, not, beq}
+use mathlib.Core.Bool.{Bool, true, beq}
 use mathlib.Core.List.{[], ◌∷◌}
 use Prim.Native.Nat.{ℕ}
 use lib.Dec.{eqb}
 use borrow.Author.Tests.{eqb-true, eq-eqb}
-use Rattle.laws.proofs.Computed.{holds, each}
+use Rattle.std.specs.Cmp.{booleans_Decides}
+use Rattle.laws.proofs.Computed.{each}
 use Rattle.screen_cells.specs.declared.Character.{Character}
 use Rattle.screen_cells.specs.declared.Cell.{Cell}
 use Rattle.screen_cells.specs.Characters.{character, same_character}
 use Rattle.screen_cells.specs.Cells.{same_cell}
-
--- ---- flags
-
-pub unlike : (s t : Bool) → not (beq s t) ≡ true → beq s t ≡ false
-unlike true true e = absurd (holds e)
-unlike true false e = refl
-unlike false true e = refl
-unlike false false e = absurd (holds e)
-
-pub alike : (s t : Bool) → not (beq s t) ≡ false → beq s t ≡ true
-alike true true e = refl
-alike true false e = absurd (holds (sym e))
-alike false true e = absurd (holds (sym e))
-alike false false e = refl
-
-flags : (s t : Bool) → beq s t ≡ true → s ≡ t
-flags true true e = refl
-flags true false e = absurd (holds e)
-flags false true e = absurd (holds e)
-flags false false e = refl
-
-flag : (t : Bool) → beq t t ≡ true
-flag true = refl
-flag false = refl
 
 -- ---- cells
 
@@ -51,8 +28,8 @@ same_equal c d e =
     let k = characters_equal c.character d.character t.0 in
     let i = eqb-true c.ink d.ink t.1.0 in
     let g = eqb-true c.ground d.ground t.1.1.0 in
-    let f = flags c.flash d.flash t.1.1.1.0 in
-    let v = flags c.inverse d.inverse t.1.1.1.1 in
+    let f = (booleans_Decides c.flash d.flash).0 t.1.1.1.0 in
+    let v = (booleans_Decides c.inverse d.inverse).0 t.1.1.1.1 in
     ap₂ (λ (x : Character) (n : ℕ). record { character = x; ink = n; ground = c.ground; flash = c.flash; inverse = c.inverse }) k i
     ∙ ap₂ (λ (n : ℕ) (s : Bool). record { character = d.character; ink = d.ink; ground = n; flash = s; inverse = c.inverse }) g f
     ∙ ap (λ (s : Bool). record { character = d.character; ink = d.ink; ground = d.ground; flash = d.flash; inverse = s }) v
@@ -64,8 +41,8 @@ itself_same c =
       eq-eqb c.character.code c.character.code refl,
       eq-eqb c.ink c.ink refl,
       eq-eqb c.ground c.ground refl,
-      flag c.flash,
-      flag c.inverse,
+      (booleans_Decides c.flash c.flash).1 refl,
+      (booleans_Decides c.inverse c.inverse).1 refl,
     )
 
 pub equal_same : (c d : Cell) → c ≡ d → same_cell c d ≡ true

@@ -7,18 +7,18 @@
 #![tactic(auto)]
 
 ghost use Rattle.std.specs.Prelude.{◌≡◌};
-ghost use Rattle.screen_cells.specs.Characters.{good_character, takes, same_character};
+ghost use Rattle.screen_cells.specs.Characters.{good_character, takes};
 ghost use Rattle.screen_cells.specs.Cells.{blank_of, good_cell, same_looks, same_cell, is_blank};
 
-// A character. Sets 0, 1 and 2 are G0, G1 and G2.
-#[derive(Clone, Copy)]
+// A character. Sets 0, 1 and 2 are G0, G1 and G2: a number and no enum, since `is_character` answers for any set.
+#[derive(Clone, Copy, PartialEq, Eq)]
 pub struct Character {
     pub set: u8,
     pub code: u8,
 }
 
-// A character on the screen, and how it looks. Colours are 0 to 7.
-#[derive(Clone, Copy)]
+// A character on the screen, and how it looks. Colours are 0 to 7: numbers, since `in_range` answers for any.
+#[derive(Clone, Copy, PartialEq, Eq)]
 pub struct Cell {
     pub character: Character,
     pub ink: u8,
@@ -28,36 +28,21 @@ pub struct Cell {
 }
 
 // Whether such a character can be written.
+#[tactic(auto, unfolding(crate::specs::Characters::good_character))]
 pub fn is_character(character: Character) -> bool
     ensures { result ≡ good_character character }
 {
-    let set = character.set;
-    let code = character.code;
-    if 2 < set {
-        return false;
-    }
-    if code < 32 {
-        return false;
-    }
-    if 127 < code {
-        return false;
-    }
-    true
+    character.set <= 2 && (32..=127).contains(&character.code)
 }
 
 // Whether it takes a waiting ground: a G0 space or any G1 character.
 pub fn takes_ground(character: Character) -> bool
     ensures { result ≡ takes character }
 {
-    let set = character.set;
-    let code = character.code;
-    if set == 1 {
-        return true;
-    }
-    if set == 0 {
-        return code == 32;
-    }
-    false
+    matches!(
+        character,
+        Character { set: 1, .. } | Character { set: 0, code: 32 }
+    )
 }
 
 // A blank cell.
@@ -77,55 +62,28 @@ pub fn blank() -> Cell
 pub fn in_range(cell: Cell) -> bool
     ensures { result ≡ good_cell cell }
 {
-    if 7 < cell.ink {
-        return false;
-    }
-    if 7 < cell.ground {
-        return false;
-    }
-    is_character(cell.character)
+    cell.ink <= 7 && cell.ground <= 7 && is_character(cell.character)
 }
 
-// Whether two cells have one character.
-fn have_one_character(a: Cell, b: Cell) -> bool
-    ensures { result ≡ same_character a.character b.character }
-{
-    if a.character.set != b.character.set {
-        return false;
-    }
-    a.character.code == b.character.code
-}
-
-// Whether two cells look the same but for their characters.
+// Whether two cells look the same but for their characters. The four by name, as `same_looks` has them: with a cell
+// that takes the other's character, `==` would say less plainly which they are.
 pub fn look_alike(a: Cell, b: Cell) -> bool
     ensures { result ≡ same_looks a b }
 {
-    if a.ink != b.ink {
-        return false;
-    }
-    if a.ground != b.ground {
-        return false;
-    }
-    if a.flash != b.flash {
-        return false;
-    }
-    a.inverse == b.inverse
+    a.ink == b.ink && a.ground == b.ground && a.flash == b.flash && a.inverse == b.inverse
 }
 
-// Whether two cells are equal.
+// Whether two cells are equal: `==`, by a name. `the_same_cell_is_an_equal_cell` of `screen_demands` says that the two
+// are one.
 pub fn same(a: Cell, b: Cell) -> bool
     ensures { result ≡ same_cell a b }
 {
-    if have_one_character(a, b) {
-        return look_alike(a, b);
-    }
-    false
+    a == b
 }
 
 // Whether a cell is blank.
 pub fn is_blank(cell: Cell) -> bool
     ensures { result ≡ is_blank cell }
 {
-    let blank = blank();
-    same(cell, blank)
+    same(cell, blank())
 }

@@ -20,25 +20,13 @@ impl Place {
     pub fn on_screen(self) -> bool
         ensures { result ≡ on_screen self }
     {
-        if 24 < self.row {
-            return false;
-        }
-        if self.column < 1 {
-            return false;
-        }
-        if 40 < self.column {
-            return false;
-        }
-        true
+        self.row <= 24 && (1..=40).contains(&self.column)
     }
+
     // Where its cell lies among the thousand. A place off the screen is taken too.
     pub fn index(self) -> usize
         ensures { result ≡ index_of self }
     {
-        let through = (self.row as usize) * 40 + (self.column as usize);
-        if 0 < through {
-            return through - 1;
-        }
-        0
+        (usize::from(self.row) * 40 + usize::from(self.column)).saturating_sub(1)
     }
 }

@@ -1,6 +1,6 @@
 // Demand 2 on the screen: what a value of 0 to 127 does to a screen in range. `advanced s b` is the screen that `step`
 // hands back there.
-ghost use Rattle.std.specs.Prelude.{◌≡◌, true, false, cond, List, ◌⊎◌, ℕ, ◌-◌, ◌/◌, ◌≤◌, ◌<◌, eqb};
+ghost use Rattle.std.specs.Prelude.{◌≡◌, Some, None, true, false, cond, List, ◌⊎◌, ℕ, ◌-◌, ◌/◌, ◌≤◌, ◌<◌, eqb};
 ghost use Rattle.screen_cursor.specs.declared.Place.{Place};
 ghost use Rattle.screen_cursor.specs.Places.{at, On};
 ghost use Rattle.screen_motion.specs.Moves.{right_of};
@@ -10,7 +10,6 @@ ghost use Rattle.screen_cells.specs.Characters.{character, takes};
 ghost use Rattle.screen_cells.specs.Cells.{blank_of};
 ghost use Rattle.screen_attributes.specs.Attributing.{Upright};
 ghost use Rattle.screen_writing.specs.Having.{Has, AlikeButZone};
-ghost use Rattle.screen_pen.specs.declared.Last.TheVariants.{Never, Was};
 ghost use Rattle.screen_planning.specs.Planning.{ordered};
 ghost use Rattle.screen_planning.specs.Grounds.{fate, outcome};
 ghost use Rattle.screen_planning.specs.Lasts.{last_after};
@@ -19,16 +18,16 @@ ghost use Rattle.screen_planning.specs.Reach.{writes, clears};
 ghost use Rattle.screen_page.specs.declared.Screen.{Screen};
 ghost use Rattle.screen_page.specs.Pages.{fresh_screen, cell_at};
 ghost use Rattle.screen_page.specs.Ranges.{InScreen};
-ghost use Rattle.screen_answers.specs.declared.Answer.TheVariants.{Taken};
+ghost use Rattle.screen_answers.specs.Answers.{Taken};
 ghost use Rattle.screen.specs.Screens.{written, written_times, advanced, advanced_by};
-ghost use Rattle.screen.specs.Calls.{steps_to, stepped, ran};
+ghost use Rattle.screen.specs.Calls.{runs_to, stepped, ran};
 ghost use Rattle.screen.specs.Claims.{onwards, Among, ended, addressing, Starts};
 
 // Only three things change a cell: a code from 2/0 with nothing unfinished or after SS2, at most the cursor's cell; n
 // after REP, at most the first n minus 64 places from the cursor in writing order; and FF with no SEP open, which keeps
 // row 0 and blanks every other cell. Every other cell, by row and column, is what it was.
 pub fn only_characters_and_ff_change_a_cell()
-    ensures steps { (s : Screen) → InScreen s → (b : ℕ) → b ≤ 127 → stepped s b ≡ steps_to (advanced s b) Taken }
+    ensures steps { (s : Screen) → InScreen s → (b : ℕ) → b ≤ 127 → stepped s b ≡ runs_to (advanced s b) Taken }
     ensures others { (s : Screen) → InScreen s → (b : ℕ) (x : Place) → On x
         → clears s.pen.sequence b ≡ false
         → (Among x (onwards (writes s.pen.sequence b) s.pen.here.place) → ⊥)
@@ -54,15 +53,15 @@ pub fn rep_is_single_characters()
         → Has (cell_at (written s c) s.pen.here.place) c s.pen.here.attributes
         (written s c).pen.here.attributes.zone.ground }
     ensures leaves { (s : Screen) (c : Character) → ((written s c).pen.here.place ≡ right_of s.pen.here.place)
-        × ((written s c).pen.last ≡ Was c)
+        × ((written s c).pen.last ≡ Some c)
         × AlikeButZone s.pen.here.attributes (written s c).pen.here.attributes }
-    ensures again { (s : Screen) (c : Character) (n : ℕ) → s.pen.sequence ≡ Repeat → s.pen.last ≡ Was c
+    ensures again { (s : Screen) (c : Character) (n : ℕ) → s.pen.sequence ≡ Repeat → s.pen.last ≡ Some c
         → 64 ≤ n → advanced s n ≡ written_times (ended s) c (n - 64) }
     ensures each { (s : Screen) (c : Character) (n : ℕ) (x : Place) → InScreen s → s.pen.sequence ≡ Repeat
-        → s.pen.last ≡ Was c → 64 ≤ n → Among x (onwards (n - 64) s.pen.here.place)
+        → s.pen.last ≡ Some c → 64 ≤ n → Among x (onwards (n - 64) s.pen.here.place)
         → Has (cell_at (advanced s n) x) c s.pen.here.attributes
         (advanced s n).pen.here.attributes.zone.ground }
-    ensures never { (s : Screen) (n : ℕ) → s.pen.sequence ≡ Repeat → s.pen.last ≡ Never → 64 ≤ n
+    ensures never { (s : Screen) (n : ℕ) → s.pen.sequence ≡ Repeat → s.pen.last ≡ None → 64 ≤ n
         → advanced s n ≡ ended s }
     ensures low { (s : Screen) (n : ℕ) → s.pen.sequence ≡ Repeat → 32 ≤ n → n < 64
         → advanced s n ≡ ended s }
@@ -72,10 +71,10 @@ pub fn rep_is_single_characters()
 // fresh screen has none: once there is one, no call leaves none.
 pub fn only_a_written_character_becomes_the_last()
     ensures last { (s : Screen) (b : ℕ) → (advanced s b).pen.last ≡ last_after s.pen (ordered s.pen b) }
-    ensures anew { fresh_screen.pen.last ≡ Never }
-    ensures stays { (s : Screen) → (s.pen.last ≡ Never → ⊥)
-        → ((b : ℕ) → (stepped s b).screen.pen.last ≡ Never → ⊥)
-        × ((vs : List ℕ) → (ran s vs).screen.pen.last ≡ Never → ⊥) }
+    ensures anew { fresh_screen.pen.last ≡ None }
+    ensures stays { (s : Screen) → (s.pen.last ≡ None → ⊥)
+        → ((b : ℕ) → (stepped s b).screen.pen.last ≡ None → ⊥)
+        × ((vs : List ℕ) → (ran s vs).screen.pen.last ≡ None → ⊥) }
 {}
 
 // FF and RS, not after SEP, give row 1, column 1 and the start attributes, none waiting, and end what was unfinished;

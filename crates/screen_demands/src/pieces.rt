@@ -3,7 +3,7 @@ ghost use Rattle.std.specs.Prelude.{◌≡◌, List, ◌++◌, ℕ};
 ghost use Rattle.values.specs.Large.{Values};
 ghost use Rattle.screen_page.specs.declared.Screen.{Screen};
 ghost use Rattle.screen_page.specs.Ranges.{InScreen};
-ghost use Rattle.screen_answers.specs.declared.Answer.TheVariants.{Taken};
+ghost use Rattle.screen_answers.specs.Answers.{Taken};
 ghost use Rattle.screen.specs.Calls.{runs_to, ran};
 ghost use Rattle.screen.specs.Claims.{singly};
 

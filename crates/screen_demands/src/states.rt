@@ -1,6 +1,6 @@
 // Demand 1 on the screen: whatever state and values are handed in, a call ends, and each refusal has its number and
 // changes nothing.
-ghost use Rattle.std.specs.Prelude.{◌≡◌, true, false, cond, List, [], ◌∷◌, ℕ, ◌≤◌, ◌<◌, length};
+ghost use Rattle.std.specs.Prelude.{◌≡◌, Ok, Err, Some, None, true, false, cond, List, [], ◌∷◌, ℕ, ◌≤◌, ◌<◌, length};
 ghost use Rattle.values.specs.Large.{first_large};
 ghost use Rattle.screen_cursor.specs.declared.Place.{Place};
 ghost use Rattle.screen_cursor.specs.Places.{at, On};
@@ -9,14 +9,13 @@ ghost use Rattle.screen_sequences.specs.Sequences.{in_range};
 ghost use Rattle.screen_sequences.specs.Opening.{LeftOpen};
 ghost use Rattle.screen_cells.specs.Cells.{blank_of};
 ghost use Rattle.screen_page.specs.declared.Screen.{Screen};
-ghost use Rattle.screen_page.specs.declared.Read.TheVariants.{Off, There};
 ghost use Rattle.screen_page.specs.declared.Cursor.TheVariants.{Hidden, Shown};
 ghost use Rattle.screen_page.specs.Pages.{fresh_screen, cell_at};
 ghost use Rattle.screen_page.specs.Ranges.{broken, InScreen};
 ghost use Rattle.screen_page.specs.Reading.{read, pointed, read_number, cursor_number};
-ghost use Rattle.screen_answers.specs.declared.Answer.TheVariants.{TooLarge, Broken};
+ghost use Rattle.screen_answers.specs.declared.Refusal.TheVariants.{TooLarge, Broken};
 ghost use Rattle.screen_answers.specs.Answers.{told};
-ghost use Rattle.screen.specs.Calls.{steps_to, stepped, runs_to, ran, run_told};
+ghost use Rattle.screen.specs.Calls.{stepped, runs_to, ran, run_told};
 
 // A call's number, and the place that it names, come of the paper's conditions in their order: 5 for a state outside
 // its ranges, then 2 for a value above 127, at its lowest place, and else 0. A step is refused as the run over its one
@@ -24,12 +23,12 @@ ghost use Rattle.screen.specs.Calls.{steps_to, stepped, runs_to, ran, run_told};
 pub fn each_call_gives_its_number()
     ensures runs { (s : Screen) (vs : List ℕ) → told (ran s vs).answer ≡ run_told s vs }
     ensures steps { (s : Screen) (b : ℕ) → told (stepped s b).answer ≡ run_told s (b ∷ []) }
-    ensures broken { (s : Screen) → broken s ≡ true → ((b : ℕ) → stepped s b ≡ steps_to s Broken)
-        × ((vs : List ℕ) → ran s vs ≡ runs_to s Broken)
+    ensures broken { (s : Screen) → broken s ≡ true → ((b : ℕ) → stepped s b ≡ runs_to s (Err Broken))
+        × ((vs : List ℕ) → ran s vs ≡ runs_to s (Err Broken))
         × ((r c : ℕ) → read_number (read s r c) ≡ 5 ∷ []) × (cursor_number (pointed s) ≡ 5 ∷ []) }
     ensures large { (s : Screen) → broken s ≡ false
-        → ((b : ℕ) → 127 < b → stepped s b ≡ steps_to s (TooLarge 0))
-        × ((vs : List ℕ) → first_large vs < length vs → ran s vs ≡ runs_to s (TooLarge (first_large vs))) }
+        → ((b : ℕ) → 127 < b → stepped s b ≡ runs_to s (Err (TooLarge 0)))
+        × ((vs : List ℕ) → first_large vs < length vs → ran s vs ≡ runs_to s (Err (TooLarge (first_large vs)))) }
 {}
 
 // Reading a cell or the cursor gives 5 exactly for a broken screen, and else 0. Read at a place of the screen, a cell is
@@ -39,10 +38,10 @@ pub fn reading_gives_the_cell_at_its_place()
     ensures numbers { (s : Screen) → ((r c : ℕ) → read_number (read s r c) ≡ cond (broken s) (5 ∷ []) (0 ∷ []))
         × (cursor_number (pointed s) ≡ cond (broken s) (5 ∷ []) (0 ∷ [])) }
     ensures cell { (s : Screen) (r c : ℕ) → broken s ≡ false → On (at r c)
-        → read s r c ≡ There (cell_at s (at r c)) }
-    ensures off { (s : Screen) (r c : ℕ) → broken s ≡ false → (On (at r c) → ⊥) → read s r c ≡ Off }
+        → read s r c ≡ Ok (Some (cell_at s (at r c))) }
+    ensures off { (s : Screen) (r c : ℕ) → broken s ≡ false → (On (at r c) → ⊥) → read s r c ≡ Ok None }
     ensures cursor { (s : Screen) → broken s ≡ false
-        → pointed s ≡ cond s.pen.shown (Shown s.pen.here.place) (Hidden s.pen.here.place) }
+        → pointed s ≡ Ok (cond s.pen.shown (Shown s.pen.here.place) (Hidden s.pen.here.place)) }
     ensures anew { (x : Place) → On x → cell_at fresh_screen x ≡ blank_of }
 {}
 

@@ -5,8 +5,8 @@ use mathlib.Core.List.{[], ◌∷◌}
 use Prim.Native.Nat.{ℕ, ◌/◌, ◌%◌}
 use lib.Dec.{ltb, eqb}
 use borrow.Author.Tests.{eqb-true}
+use Rattle.std.specs.Prelude.{Some}
 use Rattle.laws.proofs.Computed.{each, chosen}
-use Rattle.screen_attributes.specs.declared.Waiting.TheVariants.{Ground}
 use Rattle.screen_attributes.specs.declared.Attributes.{Attributes}
 use Rattle.screen_escapes.specs.Pairing.{column_four, column_five, paired, names_ground}
 
@@ -26,7 +26,7 @@ five_others a n e =
     (λ h. chosen (λ (x : Attributes). x.zone ≡ a.zone) (eqb a.set 1) (λ k. refl) (λ k. refl)) (λ h. refl)))
 
 pub pair_ground : (a : Attributes) (c : ℕ) → names_ground c ≡ true
-    → (paired a c).zone ≡ record { ground = a.zone.ground; waiting = Ground (c % 16) }
+    → (paired a c).zone ≡ record { ground = a.zone.ground; waiting = Some (c % 16) }
 pair_ground a c e =
     let t = each (eqb (c / 16) 5 ∷ ltb (c % 16) 8 ∷ []) e in
     let h : eqb (c / 16) 4 ≡ false = ap (λ (n : ℕ). eqb n 4) (eqb-true (c / 16) 5 t.0) in simp (h, t.0, t.1)

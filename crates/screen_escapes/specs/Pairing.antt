@@ -1,6 +1,5 @@
 -- What ESC and a code do to the attributes in force (01, "Screen cells"). Assumes nothing.
-use Rattle.std.specs.Prelude.{Bool, true, false, cond, ◌&&◌, ℕ, ◌/◌, ◌%◌, ltb, eqb}
-use Rattle.screen_attributes.specs.declared.Waiting.TheVariants.{Ground}
+use Rattle.std.specs.Prelude.{Some, Bool, true, false, cond, ◌&&◌, ℕ, ◌/◌, ◌%◌, ltb, eqb}
 use Rattle.screen_attributes.specs.declared.Zone.{Zone}
 use Rattle.screen_attributes.specs.declared.Attributes.{Attributes}
 
@@ -11,7 +10,7 @@ abbrev pub with_zone : Attributes → Zone → Attributes
 with_zone a z = record { set = a.set; ink = a.ink; zone = z; flash = a.flash; inverse = a.inverse }
 
 abbrev pub waits_for : Attributes → (ground : ℕ) → Attributes
-waits_for a n = with_zone a (record { ground = a.zone.ground; waiting = Ground n })
+waits_for a n = with_zone a (record { ground = a.zone.ground; waiting = Some n })
 
 abbrev pub with_flash : Attributes → Bool → Attributes
 with_flash a on = record { set = a.set; ink = a.ink; zone = a.zone; flash = on; inverse = a.inverse }

@@ -7,60 +7,56 @@
 ghost use Rattle.std.specs.Prelude.{◌≡◌};
 ghost use Rattle.screen_escapes.specs.Pairing.{waits_for, column_four, column_five, paired};
 
-use screen_attributes::{Attributes, Waiting, Zone};
+use screen_attributes::{Attributes, Zone};
 
 // ESC and a code of column 4.
-fn column_four(mut attributes: Attributes, row: u8) -> Attributes
+fn column_four(attributes: Attributes, row: u8) -> Attributes
     ensures { result ≡ column_four attributes row }
 {
-    if row < 8 {
-        attributes.ink = row;
-        return attributes;
-    }
     match row {
-        8 => {
-            attributes.flash = true;
-            attributes
-        }
-        9 => {
-            attributes.flash = false;
-            attributes
-        }
+        0..=7 => Attributes {
+            ink: row,
+            ..attributes
+        },
+        8 => Attributes {
+            flash: true,
+            ..attributes
+        },
+        9 => Attributes {
+            flash: false,
+            ..attributes
+        },
         _ => attributes,
     }
 }
 
 // This ground waits.
-fn waiting_for(mut attributes: Attributes, colour: u8) -> Attributes
+fn waiting_for(attributes: Attributes, colour: u8) -> Attributes
     ensures { result ≡ waits_for attributes colour }
 {
     let zone = Zone {
-        ground: attributes.zone.ground,
-        waiting: Waiting::Ground(colour),
+        waiting: Some(colour),
+        ..attributes.zone
     };
-    attributes.zone = zone;
-    attributes
+    Attributes { zone, ..attributes }
 }
 
 // ESC and a code of column 5. Inverse is no action in G1.
-fn column_five(mut attributes: Attributes, row: u8) -> Attributes
+fn column_five(attributes: Attributes, row: u8) -> Attributes
     ensures { result ≡ column_five attributes row }
 {
-    if row < 8 {
-        return waiting_for(attributes, row);
+    match row {
+        0..=7 => waiting_for(attributes, row),
+        12 => Attributes {
+            inverse: false,
+            ..attributes
+        },
+        13 if attributes.set != 1 => Attributes {
+            inverse: true,
+            ..attributes
+        },
+        _ => attributes,
     }
-    if row == 12 {
-        attributes.inverse = false;
-        return attributes;
-    }
-    if row == 13 {
-        if attributes.set == 1 {
-            return attributes;
-        }
-        attributes.inverse = true;
-        return attributes;
-    }
-    attributes
 }
 
 // ESC and a code.

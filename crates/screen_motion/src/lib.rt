@@ -28,17 +28,17 @@ pub fn left(place: Place) -> Place
     ensures { result ≡ left_of place }
 {
     if 1 < place.column {
-        return Place {
-            row: place.row,
+        Place {
             column: place.column - 1,
-        };
-    }
-    if place.row == 0 {
-        return place;
-    }
-    Place {
-        row: row_above(place.row),
-        column: 40,
+            ..place
+        }
+    } else if place.row == 0 {
+        place
+    } else {
+        Place {
+            row: row_above(place.row),
+            column: 40,
+        }
     }
 }
 
@@ -47,18 +47,17 @@ pub fn right(place: Place) -> Place
     ensures { result ≡ right_of place }
 {
     if place.column < 40 {
-        return Place {
-            row: place.row,
+        Place {
             column: place.column + 1,
-        };
-    }
-    let row = place.row;
-    if row == 0 {
-        return place;
-    }
-    Place {
-        row: row_below(row),
-        column: 1,
+            ..place
+        }
+    } else if place.row == 0 {
+        place
+    } else {
+        Place {
+            row: row_below(place.row),
+            column: 1,
+        }
     }
 }
 
@@ -67,28 +66,26 @@ pub fn up(place: Place) -> Place
     ensures { result ≡ up_of place }
 {
     if 0 < place.row {
-        return Place {
+        Place {
             row: row_above(place.row),
-            column: place.column,
-        };
+            ..place
+        }
+    } else {
+        place
     }
-    place
 }
 
 // LF outside row 0.
 pub fn down(place: Place) -> Place
     ensures { result ≡ down_of place }
 {
-    Place {
-        row: row_below(place.row),
-        column: place.column,
-    }
+    let row = row_below(place.row);
+    Place { row, ..place }
 }
 
 // CR.
-pub fn first(mut place: Place) -> Place
+pub fn first(place: Place) -> Place
     ensures { result ≡ first_of place }
 {
-    place.column = 1;
-    place
+    Place { column: 1, ..place }
 }

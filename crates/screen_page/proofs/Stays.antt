@@ -1,8 +1,9 @@
 -- What the range test of a screen says; a fresh screen is in range. Assumes nothing.
-use mathlib.Core.Path.{◌≡◌, refl, sym, ap}
-use mathlib.Core.Bool.{Bool, true, false, not}
+use mathlib.Core.Path.{◌≡◌, ap}
+use mathlib.Core.Bool.{true, false, not}
 use mathlib.Core.List.{[], ◌∷◌}
 use lib.ListN.{length, length-replicate}
+use Rattle.std.proofs.lemmas.Bool.{not-false}
 use Rattle.laws.proofs.Computed.{each}
 use Rattle.screen_cells.specs.Cells.{blank_of}
 use Rattle.screen_sheet.specs.Within.{all_good}
@@ -26,18 +27,11 @@ true_screen s n e =
 -- broken is what is not in range
 pub whole : (s : Screen) → broken s ≡ false → in_range s ≡ true
 unfolding broken
-whole s e = go (in_range s) e
-  where
-    go : (t : Bool) → not t ≡ false → t ≡ true
-    go true f = refl
-    go false f = sym f
-
-not_broken : (s : Screen) → in_range s ≡ true → broken s ≡ false
-unfolding broken
-not_broken s e = ap not e
+whole s e = not-false _ e
 
 pub unbroken : {s : Screen} → InScreen s → broken s ≡ false
-unbroken {s} h = not_broken s (screen_true h)
+unfolding broken
+unbroken {s} h = ap not (screen_true h)
 
 -- the pen alone
 pub true_pen_in : (s : Screen) → in_range s ≡ true → InPen s.pen

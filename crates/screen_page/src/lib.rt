@@ -22,83 +22,75 @@ pub struct Screen {
     pub pen: Pen,
 }
 
-// What reading a cell gives.
-#[derive(Clone, Copy)]
-pub enum Read {
-    Broken,
-    // No such place on the screen.
-    Off,
-    There(Cell),
-}
-
-// What reading the cursor gives.
+// A cursor that is read: where it is.
 #[derive(Clone, Copy)]
 pub enum Cursor {
-    Broken,
     Hidden(Place),
     Shown(Place),
 }
 
+// Why nothing is read: the screen lies outside the ranges of the page.
+#[derive(Clone, Copy)]
+pub struct Broken;
+
 impl Screen {
     // A thousand blank cells, and the pen at its start.
+    #[tactic(auto, unfolding(crate::specs::Pages::fresh_screen))]
     pub fn fresh() -> Screen
         ensures { result ≡ fresh_screen }
     {
         let blank = screen_cells::blank();
-        let cells = [blank; 1000];
         let pen = Pen::fresh();
-        Screen { cells, pen }
+        Screen {
+            cells: [blank; 1000],
+            pen,
+        }
     }
 
     // Whether it lies outside the ranges of the page.
+    #[tactic(auto, unfolding(crate::specs::Ranges::in_range, crate::specs::Ranges::broken))]
     pub fn is_broken(self) -> bool
         ensures { result ≡ broken self }
     {
-        if screen_ranges::in_range(self.pen) {
-            let cells = self.cells;
-            if screen_sheet::in_range(cells) {
-                return false;
-            }
-        }
-        true
+        !(screen_ranges::in_range(self.pen) && screen_sheet::in_range(self.cells))
     }
 
-    // The cell that is seen at a place, which is the one that is stored there. Whatever shows a page comes by here.
+    // The cell that is seen at a place, which is the one that is stored there. Whatever
+    // reads one cell comes by here; a dump of all thousand has them as they are stored.
     fn seen(self, place: Place) -> Cell
         requires { On place }
         ensures { result ≡ seen_at self place }
     {
-        let at = place.index();
-        let cell = self.cells[at];
-        cell
+        self.cells[place.index()]
     }
 
-    // What is seen at a row, from 0, and a column, from 1.
-    pub fn cell(self, row: u8, column: u8) -> Read
+    // What is seen at a row, from 0, and a column, from 1: nothing at a place off the screen.
+    #[tactic(auto, unfolding(crate::specs::Reading::read))]
+    pub fn cell(self, row: u8, column: u8) -> Result<Option<Cell>, Broken>
         ensures { result ≡ read self row column }
     {
         if self.is_broken() {
-            return Read::Broken;
+            return Err(Broken);
         }
         let place = Place { row, column };
-        if place.on_screen() {
-            let cell = self.seen(place);
-            return Read::There(cell);
+        if !place.on_screen() {
+            return Ok(None);
         }
-        Read::Off
+        Ok(Some(self.seen(place)))
     }
 
     // Where the cursor is, and whether it is shown.
-    pub fn cursor(self) -> Cursor
+    #[tactic(auto, unfolding(crate::specs::Reading::pointed))]
+    pub fn cursor(self) -> Result<Cursor, Broken>
         ensures { result ≡ pointed self }
     {
         if self.is_broken() {
-            return Cursor::Broken;
+            return Err(Broken);
         }
         let place = self.pen.here.place;
         if self.pen.shown {
-            return Cursor::Shown(place);
+            return Ok(Cursor::Shown(place));
         }
-        Cursor::Hidden(place)
+        Ok(Cursor::Hidden(place))
     }
 }

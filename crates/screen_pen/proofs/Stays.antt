@@ -2,6 +2,7 @@
 use mathlib.Core.Path.{◌≡◌, refl}
 use mathlib.Core.Bool.{true}
 use mathlib.Core.List.{[], ◌∷◌}
+use Rattle.std.specs.Prelude.{Option, Some, None}
 use Rattle.laws.proofs.Computed.{each}
 use Rattle.screen_cursor.specs.Places.{on_screen}
 use Rattle.screen_cursor.proofs.Tested.{on_true, true_on, home_on}
@@ -15,8 +16,6 @@ use Rattle.screen_attributes.specs.Within.{good}
 use Rattle.screen_attributes.proofs.Stays.{force_true, true_force, start_in}
 use Rattle.screen_writing.proofs.Stays.{write_in, cell_in}
 use Rattle.screen_pen.specs.declared.Spot.{Spot}
-use Rattle.screen_pen.specs.declared.Last.{Last}
-use Rattle.screen_pen.specs.declared.Last.TheVariants.{Never, Was}
 use Rattle.screen_pen.specs.declared.Pen.{Pen}
 use Rattle.screen_pen.specs.Pens.{start_spot, fresh_pen}
 use Rattle.screen_pen.specs.Pens.{good_last, good_spot, in_range, InLast, InSpot, InPen}
@@ -34,13 +33,13 @@ true_spot s e =
     let t = each (on_screen s.place ∷ good s.attributes ∷ []) e in
     record { place = true_on s.place t.0; attributes = true_force s.attributes t.1 }
 
-last_true : (l : Last) → InLast l → good_last l ≡ true
-last_true Never h = refl
-last_true (Was c) h = character_true h
+last_true : (l : Option Character) → InLast l → good_last l ≡ true
+last_true None h = refl
+last_true (Some c) h = character_true h
 
-true_last : (l : Last) → good_last l ≡ true → InLast l
-true_last Never e = tt
-true_last (Was c) e = true_character c e
+true_last : (l : Option Character) → good_last l ≡ true → InLast l
+true_last None e = tt
+true_last (Some c) e = true_character c e
 
 pub pen_true : (p : Pen) → InPen p → in_range p ≡ true
 unfolding in_range

@@ -1,5 +1,6 @@
 -- What a pen is: its start, its ranges (01, "Screen cells"). Assumes nothing.
-use Rattle.std.specs.Prelude.{◌≡◌, Bool, true, false, ◌&&◌}
+use Rattle.std.specs.Prelude.{Option, Some, None, ◌≡◌, Bool, true, false, ◌&&◌}
+use Rattle.screen_cells.specs.declared.Character.{Character}
 use Rattle.screen_cursor.specs.Places.{home, on_screen, On}
 use Rattle.screen_sequences.specs.declared.Sequence.TheVariants.{Free}
 use Rattle.screen_sequences.specs.Sequences.{in_range as good_sequence}
@@ -7,8 +8,6 @@ use Rattle.screen_cells.specs.Characters.{good_character, InCharacter}
 use Rattle.screen_attributes.specs.Attributing.{start_of}
 use Rattle.screen_attributes.specs.Within.{good, InForce}
 use Rattle.screen_pen.specs.declared.Spot.{Spot}
-use Rattle.screen_pen.specs.declared.Last.{Last}
-use Rattle.screen_pen.specs.declared.Last.TheVariants.{Never, Was}
 use Rattle.screen_pen.specs.declared.Pen.{Pen}
 
 -- "row 1, column 1 and start attributes"
@@ -18,13 +17,13 @@ start_spot = record { place = home; attributes = start_of }
 -- "Current attributes at the start ..", "The cursor starts at row 1, column 1, hidden"; "if there was none, row 1,
 -- column 1 and start attributes"
 abbrev pub fresh_pen : Pen
-fresh_pen = record { here = start_spot; kept = start_spot; last = Never; sequence = Free; shown = false }
+fresh_pen = record { here = start_spot; kept = start_spot; last = None; sequence = Free; shown = false }
 
 -- ---- ranges
 
-abbrev pub good_last : Last → Bool
-good_last Never = true
-good_last (Was c) = good_character c
+abbrev pub good_last : Option Character → Bool
+good_last None = true
+good_last (Some c) = good_character c
 
 unfoldable pub good_spot : Spot → Bool
 good_spot s = on_screen s.place && good s.attributes
@@ -33,9 +32,9 @@ good_spot s = on_screen s.place && good s.attributes
 unfoldable pub in_range : Pen → Bool
 in_range p = good_spot p.here && (good_spot p.kept && (good_last p.last && good_sequence p.sequence))
 
-abbrev pub InLast : Last → Type 0
-InLast Never = Unit {0}
-InLast (Was c) = InCharacter c
+abbrev pub InLast : Option Character → Type 0
+InLast None = Unit {0}
+InLast (Some c) = InCharacter c
 
 pub record InSpot (s : Spot) : Type 0 where
   pub place : On s.place

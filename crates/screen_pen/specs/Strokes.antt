@@ -1,9 +1,8 @@
 -- What a character written does (01, "Screen cells"). Assumes nothing.
-use Rattle.std.specs.Prelude.{ℕ, zero, suc}
+use Rattle.std.specs.Prelude.{Some, ℕ, zero, suc}
 use Rattle.screen_motion.specs.Moves.{right_of}
 use Rattle.screen_cells.specs.declared.Character.{Character}
 use Rattle.screen_writing.specs.Writing.{written}
-use Rattle.screen_pen.specs.declared.Last.TheVariants.{Was}
 use Rattle.screen_pen.specs.declared.Pen.{Pen}
 use Rattle.screen_pen.specs.declared.Stroke.{Stroke}
 
@@ -13,7 +12,7 @@ after p c =
     record {
       here = record { place = right_of p.here.place; attributes = (written p.here.attributes c).attributes };
       kept = p.kept;
-      last = Was c;
+      last = Some c;
       sequence = p.sequence;
       shown = p.shown;
     }

@@ -22,19 +22,13 @@ pub struct Spot {
     pub attributes: Attributes,
 }
 
-// The last character written. Only a fresh pen has none.
-#[derive(Clone, Copy)]
-pub enum Last {
-    Never,
-    Was(Character),
-}
-
 #[derive(Clone, Copy)]
 pub struct Pen {
     pub here: Spot,
     // Where it was before US entered row 0; at the start, the start's.
     pub kept: Spot,
-    pub last: Last,
+    // The last character written. Only a fresh pen has none.
+    pub last: Option<Character>,
     pub sequence: Sequence,
     pub shown: bool,
 }
@@ -58,7 +52,7 @@ impl Pen {
         Pen {
             here: start,
             kept: start,
-            last: Last::Never,
+            last: None,
             sequence: Sequence::Free,
             shown: false,
         }
@@ -69,19 +63,18 @@ impl Pen {
         ensures { result ≡ stroke_of self character }
     {
         let written = screen_writing::write(self.here.attributes, character);
-        let cell = written.cell;
-        let attributes = written.attributes;
         let place = screen_motion::right(self.here.place);
-        let here = Spot { place, attributes };
-        let kept = self.kept;
-        let sequence = self.sequence;
         let pen = Pen {
-            here,
-            kept,
-            last: Last::Was(character),
-            sequence,
-            shown: self.shown,
+            here: Spot {
+                place,
+                attributes: written.attributes,
+            },
+            last: Some(character),
+            ..self
         };
-        Stroke { cell, pen }
+        Stroke {
+            cell: written.cell,
+            pen,
+        }
     }
 }

@@ -6,10 +6,10 @@ use Prim.Native.Nat.{ℕ, ◌-◌, ◌≤◌}
 use native.Mathlib.Omega.{arith}
 use lib.Dec.{leb}
 use borrow.Author.Tests.{le-leb, leb-true}
+use Rattle.std.specs.Prelude.{Option, Some, None}
+use Rattle.screen_cursor.specs.declared.Place.{Place}
 use Rattle.laws.proofs.Computed.{each}
 use Rattle.screen_cursor.specs.Places.{at}
-use Rattle.screen_addresses.specs.declared.Address.{Address}
-use Rattle.screen_addresses.specs.declared.Address.TheVariants.{Nowhere, There}
 use Rattle.screen_addresses.specs.Addressing.{good, addressed}
 use Rattle.screen_sequences.specs.declared.Sequence.{Sequence}
 use Rattle.screen_sequences.specs.declared.Sequence.TheVariants.{Free, Row}
@@ -23,14 +23,14 @@ use Rattle.screen_planning.specs.Obeying.{keeps, entering, start_at, gone, obeye
 use Rattle.screen_planning.specs.Planning.{planned}
 use Rattle.screen_planning.proofs.Plans.{plan_heard}
 
-leads : (r c : ℕ) → Names r c → addressed r c ≡ There (at (r - 64) (c - 64))
+leads : (r c : ℕ) → Names r c → addressed r c ≡ Some (at (r - 64) (c - 64))
 leads r c n =
     simp (le-leb 64 r n.lowest, le-leb r 88 n.highest, le-leb 65 c n.first, le-leb c 104 n.last)
 
-nowhere : (r c : ℕ) → (Names r c → ⊥) → addressed r c ≡ Nowhere
+nowhere : (r c : ℕ) → (Names r c → ⊥) → addressed r c ≡ None
 nowhere r c f = go (good r c) refl
   where
-    go : (t : Bool) → good r c ≡ t → cond t (There (at (r - 64) (c - 64))) Nowhere ≡ Nowhere
+    go : (t : Bool) → good r c ≡ t → cond t (Some (at (r - 64) (c - 64))) None ≡ None
     go true e =
         let u = each (leb 64 r ∷ leb r 88 ∷ leb 65 c ∷ leb c 104 ∷ []) e in
         absurd
@@ -44,12 +44,12 @@ nowhere r c f = go (good r c) refl
     go false e = refl
 
 -- what the column's code does, by where both lead
-column : (p : Pen) (r c : ℕ) (a : Address) → p.sequence ≡ Row r → 32 ≤ c → addressed r c ≡ a
+column : (p : Pen) (r c : ℕ) (a : Option Place) → p.sequence ≡ Row r → 32 ≤ c → addressed r c ≡ a
     → planned p c ≡ keeps (gone (with_sequence p Free) a)
 unfolding obeyed
 column p r c a q h e =
     plan_heard p c (does (Go r c)) (ap (λ (x : Sequence). heard x c) q ∙ heard_code (Row r) c (omega (arith, h)))
-    ∙ ap (λ (x : Address). keeps (gone (with_sequence p Free) x)) e
+    ∙ ap (λ (x : Option Place). keeps (gone (with_sequence p Free) x)) e
 
 -- to the place that is named, with start attributes
 pub us_there : (p : Pen) (r c : ℕ) → p.sequence ≡ Row r → Names r c

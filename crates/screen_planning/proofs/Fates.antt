@@ -3,11 +3,11 @@ use mathlib.Core.Path.{◌≡◌, refl, sym, ap, ◌∙◌}
 use mathlib.Core.Bool.{Bool, true, false, cond}
 use Prim.Native.Nat.{ℕ, zero, suc, ◌-◌, ◌%◌}
 use lib.Dec.{eqb}
+use Rattle.std.specs.Prelude.{Option, Some, None}
 use Rattle.laws.proofs.Computed.{chosen}
 use Rattle.screen_cursor.specs.declared.Place.{Place}
 use Rattle.screen_cursor.specs.Places.{at}
 use Rattle.screen_motion.specs.Moves.{down_of}
-use Rattle.screen_addresses.specs.declared.Address.TheVariants.{Nowhere, There}
 use Rattle.screen_addresses.specs.Addressing.{good}
 use Rattle.screen_sequences.specs.declared.Sequence.{Sequence}
 use Rattle.screen_sequences.specs.declared.Order.{Order}
@@ -17,16 +17,12 @@ use Rattle.screen_sequences.specs.declared.Order.TheVariants.{Second, Again}
 use Rattle.screen_sequences.specs.Sequences.{heard}
 use Rattle.screen_cells.specs.declared.Character.{Character}
 use Rattle.screen_cells.specs.Characters.{takes}
-use Rattle.screen_attributes.specs.declared.Waiting.{Waiting}
-use Rattle.screen_attributes.specs.declared.Waiting.TheVariants.{Nothing, Ground}
 use Rattle.screen_attributes.specs.declared.Zone.{Zone}
 use Rattle.screen_attributes.specs.declared.Attributes.{Attributes}
 use Rattle.screen_escapes.specs.Pairing.{paired, names_ground}
 use Rattle.screen_escapes.proofs.Grounds.{pair_ground, pair_others}
 use Rattle.screen_writing.specs.Writing.{after_waiting, after_writing}
 use Rattle.screen_writing.proofs.Twice.{written_twice}
-use Rattle.screen_pen.specs.declared.Last.{Last}
-use Rattle.screen_pen.specs.declared.Last.TheVariants.{Never, Was}
 use Rattle.screen_pen.specs.declared.Pen.{Pen}
 use Rattle.screen_pen.specs.Strokes.{after_times}
 use Rattle.screen_planning.specs.Changing.{with_here, with_place, with_sequence}
@@ -42,14 +38,14 @@ module _ (p : Pen) where
   -- ---- a character written
 
   -- one that takes a ground, or does not
-  marked : (t : Bool) (w : Waiting) → zone.waiting ≡ w → after_waiting w zone t ≡ outcome p (taken_where t)
-  marked true Nothing e =
-      ap (λ (w : Waiting). record { ground = zone.ground; waiting = w }) e
-      ∙ sym (ap (λ (w : Waiting). record { ground = taken_from w zone.ground; waiting = Nothing }) e)
-  marked true (Ground g) e =
-      sym (ap (λ (w : Waiting). record { ground = taken_from w zone.ground; waiting = Nothing }) e)
-  marked false Nothing e = refl
-  marked false (Ground g) e = refl
+  marked : (t : Bool) (w : Option ℕ) → zone.waiting ≡ w → after_waiting w zone t ≡ outcome p (taken_where t)
+  marked true None e =
+      ap (λ (w : Option ℕ). record { ground = zone.ground; waiting = w }) e
+      ∙ sym (ap (λ (w : Option ℕ). record { ground = taken_from w zone.ground; waiting = None }) e)
+  marked true (Some g) e =
+      sym (ap (λ (w : Option ℕ). record { ground = taken_from w zone.ground; waiting = None }) e)
+  marked false None e = refl
+  marked false (Some g) e = refl
 
   -- once, and the same one again and again
   times : (x : Character) (n : ℕ) → (after_times p x (suc n)).here.attributes ≡ after_writing p.here.attributes x
@@ -61,12 +57,12 @@ module _ (p : Pen) where
       → (after_times p x (suc n)).here.attributes.zone ≡ outcome p (taken_where (takes x))
   written_fate x n = ap (λ (a : Attributes). a.zone) (times x n) ∙ marked (takes x) zone.waiting refl
 
-  last_fate : (l : Last) (n : ℕ)
+  last_fate : (l : Option Character) (n : ℕ)
       → (finished (again p l n).pen (again p l n).asked).here.attributes.zone ≡ outcome p (again_fate l n)
   unfolding after_times
-  last_fate Never n = refl
-  last_fate (Was x) zero = refl
-  last_fate (Was x) (suc n) = written_fate x n
+  last_fate None n = refl
+  last_fate (Some x) zero = refl
+  last_fate (Some x) (suc n) = written_fate x n
 
   -- ---- the other orders
 
@@ -77,7 +73,7 @@ module _ (p : Pen) where
       (λ t. pair_ground p.here.attributes c t) (λ t. pair_others p.here.attributes c t)
 
   go_fate : (t : Bool) (x : Place)
-      → (gone p (cond t (There x) Nowhere)).here.attributes.zone ≡ outcome p (cond t dropped left_alone)
+      → (gone p (cond t (Some x) None)).here.attributes.zone ≡ outcome p (cond t dropped left_alone)
   unfolding gone
   go_fate true x = refl
   go_fate false x = refl

@@ -1,12 +1,12 @@
 -- The last character is changed by a written character alone. Assumes nothing.
-use mathlib.Core.Path.{◌≡◌, refl, sym, ap, ◌∙◌}
+use mathlib.Core.Path.{◌≡◌, refl, sym, ◌∙◌}
 use mathlib.Core.Bool.{Bool, true, false, cond}
 use Prim.Native.Nat.{ℕ, zero, suc}
 use lib.Dec.{eqb}
-use Rattle.laws.proofs.Computed.{holds}
+use Rattle.std.specs.Prelude.{Option, Some, None}
+use Rattle.std.proofs.lemmas.Option.{none-some}
+use Rattle.screen_cursor.specs.declared.Place.{Place}
 use Rattle.screen_motion.specs.Moves.{down_of}
-use Rattle.screen_addresses.specs.declared.Address.{Address}
-use Rattle.screen_addresses.specs.declared.Address.TheVariants.{Nowhere, There}
 use Rattle.screen_addresses.specs.Addressing.{addressed}
 use Rattle.screen_sequences.specs.declared.Sequence.{Sequence}
 use Rattle.screen_sequences.specs.declared.Order.{Order}
@@ -15,8 +15,6 @@ use Rattle.screen_sequences.specs.declared.Order.TheVariants.{ShiftOut, ShiftIn,
 use Rattle.screen_sequences.specs.declared.Order.TheVariants.{Second, Again}
 use Rattle.screen_sequences.specs.Sequences.{heard}
 use Rattle.screen_cells.specs.declared.Character.{Character}
-use Rattle.screen_pen.specs.declared.Last.{Last}
-use Rattle.screen_pen.specs.declared.Last.TheVariants.{Never, Was}
 use Rattle.screen_pen.specs.declared.Pen.{Pen}
 use Rattle.screen_pen.specs.Strokes.{after_times}
 use Rattle.screen_planning.specs.Changing.{with_here, with_place, with_sequence}
@@ -25,12 +23,12 @@ use Rattle.screen_planning.specs.Planning.{finished, after_order, unfinished, or
 use Rattle.screen_planning.specs.Lasts.{last_after}
 
 -- REP writes the last character, which stays the last
-again_last : (p : Pen) (l : Last) (n : ℕ) → p.last ≡ l
+again_last : (p : Pen) (l : Option Character) (n : ℕ) → p.last ≡ l
     → (finished (again p l n).pen (again p l n).asked).last ≡ p.last
 unfolding after_times
-again_last p Never n e = refl
-again_last p (Was x) zero e = refl
-again_last p (Was x) (suc n) e = sym e
+again_last p None n e = refl
+again_last p (Some x) zero e = refl
+again_last p (Some x) (suc n) e = sym e
 
 down_last : (p : Pen) (t : Bool)
     → (cond t (with_here p p.kept) (with_place p (down_of p.here.place))
@@ -44,10 +42,10 @@ enter_last p true true = refl
 enter_last p true false = refl
 enter_last p false u = refl
 
-go_last : (p : Pen) (a : Address) → (gone p a).last ≡ p.last
+go_last : (p : Pen) (a : Option Place) → (gone p a).last ≡ p.last
 unfolding gone
-go_last p Nowhere = refl
-go_last p (There x) = enter_last p (eqb x.row 0) (eqb p.here.place.row 0)
+go_last p None = refl
+go_last p (Some x) = enter_last p (eqb x.row 0) (eqb p.here.place.row 0)
 
 order_last : (p : Pen) (o : Order) → (after_order p o).last ≡ last_after p o
 unfolding obeyed after_times
@@ -96,15 +94,7 @@ value_last p b =
 
 -- ---- only a fresh pen has none
 
-is_never : Last → Bool
-is_never Never = true
-is_never (Was x) = false
-
-written : {x : Character} → Was x ≡ Never → ⊥
-unfolding is_never
-written e = holds (ap is_never e)
-
-order_never : (p : Pen) (o : Order) → last_after p o ≡ Never → p.last ≡ Never
+order_never : (p : Pen) (o : Order) → last_after p o ≡ None → p.last ≡ None
 order_never p Skip e = e
 order_never p Left e = e
 order_never p Right e = e
@@ -119,10 +109,10 @@ order_never p Show e = e
 order_never p Hide e = e
 order_never p (Pair c) e = e
 order_never p (Go r c) e = e
-order_never p (Write c) e = absurd (written e)
-order_never p (Second c) e = absurd (written e)
+order_never p (Write c) e = absurd (none-some _ (sym e))
+order_never p (Second c) e = absurd (none-some _ (sym e))
 order_never p (Again n) e = e
 
 -- where there is none after a value, there was none before it
-pub value_never : (p : Pen) (b : ℕ) → (pen_after p b).last ≡ Never → p.last ≡ Never
+pub value_never : (p : Pen) (b : ℕ) → (pen_after p b).last ≡ None → p.last ≡ None
 value_never p b e = order_never p (ordered p b) (sym (value_last p b) ∙ e)

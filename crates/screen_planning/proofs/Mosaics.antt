@@ -3,9 +3,9 @@
 use Prim.Native.Nat.{ℕ, zero, suc}
 use native.Mathlib.Omega.{arith}
 use lib.Dec.{eqb}
+use Rattle.std.specs.Prelude.{Option, Some, None}
+use Rattle.screen_cursor.specs.declared.Place.{Place}
 use Rattle.laws.proofs.Computed.{chosen}
-use Rattle.screen_addresses.specs.declared.Address.{Address}
-use Rattle.screen_addresses.specs.declared.Address.TheVariants.{Nowhere, There}
 use Rattle.screen_addresses.specs.Addressing.{addressed}
 use Rattle.screen_sequences.specs.declared.Order.{Order}
 use Rattle.screen_sequences.specs.declared.Order.TheVariants.{Skip, Left, Right, Up, Down, First, Clear, Home}
@@ -17,8 +17,6 @@ use Rattle.screen_attributes.proofs.Mosaics.{start_upright, out_upright}
 use Rattle.screen_escapes.proofs.Mosaics.{pair_upright}
 use Rattle.screen_writing.proofs.Mosaics.{write_upright}
 use Rattle.screen_cells.specs.declared.Character.{Character}
-use Rattle.screen_pen.specs.declared.Last.{Last}
-use Rattle.screen_pen.specs.declared.Last.TheVariants.{Never, Was}
 use Rattle.screen_pen.specs.declared.Pen.{Pen}
 use Rattle.screen_pen.specs.Pens.{fresh_pen}
 use Rattle.screen_pen.specs.Strokes.{after_times}
@@ -41,9 +39,9 @@ times_upright p x zero h = h
 times_upright p x (suc n) h =
     let k = times_upright p x n h in (write_upright (after_times p x n).here.attributes x k.0, k.1)
 
-again_upright : (p : Pen) (l : Last) (n : ℕ) → Uprights p → Uprights (finished (again p l n).pen (again p l n).asked)
-again_upright p Never n h = h
-again_upright p (Was x) n h = times_upright p x n h
+again_upright : (p : Pen) (l : Option Character) (n : ℕ) → Uprights p → Uprights (finished (again p l n).pen (again p l n).asked)
+again_upright p None n h = h
+again_upright p (Some x) n h = times_upright p x n h
 
 lowered_upright : (p : Pen) → Uprights p → Uprights (lowered p)
 lowered_upright p h = chosen Uprights (eqb p.here.place.row 0) (λ e. (h.1, h.1)) (λ e. h)
@@ -52,10 +50,10 @@ entering_upright : (p : Pen) (r : ℕ) → Uprights p → Uprights (entering p r
 entering_upright p r h =
     chosen Uprights (eqb r 0) (λ e. chosen Uprights (eqb p.here.place.row 0) (λ f. h) (λ f. (h.0, h.0))) (λ e. h)
 
-gone_upright : (p : Pen) (a : Address) → Uprights p → Uprights (gone p a)
+gone_upright : (p : Pen) (a : Option Place) → Uprights p → Uprights (gone p a)
 unfolding gone
-gone_upright p Nowhere h = h
-gone_upright p (There x) h = (start_upright, (entering_upright p x.row h).1)
+gone_upright p None h = h
+gone_upright p (Some x) h = (start_upright, (entering_upright p x.row h).1)
 
 order_upright : (p : Pen) (o : Order) → Uprights p → Uprights (after_order p o)
 unfolding obeyed

@@ -5,6 +5,8 @@ use mathlib.Core.Bool.{Bool, true, false, cond, ◌&&◌, not}
 use Prim.Native.Nat.{ℕ, ◌-◌, ◌/◌, ◌≤◌}
 use native.Mathlib.Nat.{le_refl}
 use lib.Dec.{ltb, leb, eqb}
+use Rattle.std.specs.Prelude.{Option, Some, None}
+use Rattle.screen_cells.specs.declared.Character.{Character}
 use Rattle.laws.proofs.Computed.{chosen}
 use Rattle.screen_cursor.specs.declared.Place.{Place}
 use Rattle.screen_sequences.specs.declared.Sequence.{Sequence}
@@ -15,8 +17,6 @@ use Rattle.screen_sequences.specs.declared.Order.TheVariants.{Skip}
 use Rattle.screen_sequences.specs.declared.Heard.{Heard}
 use Rattle.screen_sequences.specs.Sequences.{is_separator, does, opens, begins, control, followed}
 use Rattle.screen_sequences.proofs.Stays.{none, also, among_in}
-use Rattle.screen_pen.specs.declared.Last.{Last}
-use Rattle.screen_pen.specs.declared.Last.TheVariants.{Never, Was}
 use Rattle.screen_pen.specs.declared.Pen.{Pen}
 use Rattle.screen_planning.specs.declared.Asked.{Asked}
 use Rattle.screen_planning.specs.declared.Asked.TheVariants.{Nothing, Blank, Put}
@@ -37,10 +37,10 @@ abbrev Within : Pen → Bool → ℕ → Heard → Type 0
 Within p t n h = Asks t n p.here.place (planned_by p h).pen.here.place (planned_by p h).asked
 
 module _ (p : Pen) (t : Bool) where
-  again_asks : (l : Last) (n : ℕ)
+  again_asks : (l : Option Character) (n : ℕ)
       → Asks t n p.here.place (again (with_sequence p Free) l n).pen.here.place (again (with_sequence p Free) l n).asked
-  again_asks Never n = tt
-  again_asks (Was x) n = (le_refl n, refl)
+  again_asks None n = tt
+  again_asks (Some x) n = (le_refl n, refl)
 
   -- a code from 2/0
   follow_asks : (q : Sequence) (c : ℕ) → Within p t (reach q c) (followed q c)

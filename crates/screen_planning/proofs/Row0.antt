@@ -5,10 +5,10 @@ use Prim.Native.Nat.{ℕ, zero, suc, ◌-◌, ◌≤◌}
 use native.Mathlib.Omega.{arith}
 use lib.Dec.{eqb, lit≤}
 use borrow.Author.Tests.{eq-eqb, ne_eqb}
+use Rattle.std.specs.Prelude.{Option, Some, None}
 use Rattle.screen_cursor.specs.declared.Place.{Place}
 use Rattle.screen_cursor.specs.Places.{at}
 use Rattle.screen_motion.specs.Moves.{down_of}
-use Rattle.screen_addresses.specs.declared.Address.TheVariants.{Nowhere, There}
 use Rattle.screen_addresses.specs.Addressing.{good}
 use Rattle.screen_sequences.specs.declared.Sequence.TheVariants.{Free, Separator}
 use Rattle.screen_sequences.specs.declared.Order.{Order}
@@ -18,8 +18,6 @@ use Rattle.screen_sequences.specs.declared.Order.TheVariants.{Second, Again}
 use Rattle.screen_sequences.specs.Sequences.{control}
 use Rattle.screen_sequences.proofs.Codes.{heard_control}
 use Rattle.screen_cells.specs.declared.Character.{Character}
-use Rattle.screen_pen.specs.declared.Last.{Last}
-use Rattle.screen_pen.specs.declared.Last.TheVariants.{Never, Was}
 use Rattle.screen_pen.specs.declared.Pen.{Pen}
 use Rattle.screen_pen.specs.Strokes.{after_times}
 use Rattle.screen_planning.specs.Changing.{with_here, with_place, with_sequence}
@@ -34,9 +32,9 @@ unfolding after_times
 times_kept p x zero = refl
 times_kept p x (suc n) = times_kept p x n
 
-again_kept : (p : Pen) (l : Last) (n : ℕ) → (finished (again p l n).pen (again p l n).asked).kept ≡ p.kept
-again_kept p Never n = refl
-again_kept p (Was x) n = times_kept p x n
+again_kept : (p : Pen) (l : Option Character) (n : ℕ) → (finished (again p l n).pen (again p l n).asked).kept ≡ p.kept
+again_kept p None n = refl
+again_kept p (Some x) n = times_kept p x n
 
 down_kept : (p : Pen) (t : Bool)
     → (cond t (with_here p p.kept) (with_place p (down_of p.here.place))
@@ -47,7 +45,7 @@ down_kept p false = refl
 
 -- US leaves it alone where the cursor is in row 0 already
 go_kept : (p : Pen) (t u : Bool) (x : Place) → eqb p.here.place.row 0 ≡ true → eqb x.row 0 ≡ u
-    → (gone p (cond t (There x) Nowhere)).kept ≡ p.kept
+    → (gone p (cond t (Some x) None)).kept ≡ p.kept
 unfolding gone
 go_kept p true true x e f = simp (e, f)
 go_kept p true false x e f = simp f

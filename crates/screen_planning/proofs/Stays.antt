@@ -4,13 +4,13 @@ use mathlib.Core.Bool.{Bool, true}
 use Prim.Native.Nat.{ℕ, ◌≤◌}
 use native.Mathlib.Omega.{arith}
 use lib.Dec.{eqb, lit≤}
+use Rattle.std.specs.Prelude.{Option, Some, None}
+use Rattle.screen_cells.specs.declared.Character.{Character}
 use Rattle.laws.proofs.Computed.{chosen}
 use Rattle.screen_cursor.specs.declared.Place.{Place}
 use Rattle.screen_cursor.specs.Places.{On}
 use Rattle.screen_cursor.proofs.Tested.{home_on}
 use Rattle.screen_motion.proofs.Stays.{left_on, right_on, up_on, down_on, first_on}
-use Rattle.screen_addresses.specs.declared.Address.{Address}
-use Rattle.screen_addresses.specs.declared.Address.TheVariants.{Nowhere, There}
 use Rattle.screen_addresses.specs.Addressing.{addressed}
 use Rattle.screen_addresses.proofs.Stays.{Leads, address_on}
 use Rattle.screen_sequences.specs.declared.Sequence.{Sequence}
@@ -26,8 +26,6 @@ use Rattle.screen_attributes.specs.Within.{InForce}
 use Rattle.screen_attributes.proofs.Stays.{start_in, out_in, in_in}
 use Rattle.screen_escapes.proofs.Stays.{pair_in}
 use Rattle.screen_pen.specs.declared.Spot.{Spot}
-use Rattle.screen_pen.specs.declared.Last.{Last}
-use Rattle.screen_pen.specs.declared.Last.TheVariants.{Never, Was}
 use Rattle.screen_pen.specs.declared.Pen.{Pen}
 use Rattle.screen_pen.specs.Pens.{InLast, InSpot, InPen}
 use Rattle.screen_planning.specs.declared.Asked.{Asked}
@@ -81,14 +79,14 @@ entering_in {p} r h =
 start_at_lem : {p : Pen} {x : Place} → InPen p → On x → InPen (start_at p x)
 start_at_lem h k = here_in h (record { place = k; attributes = start_in })
 
-gone_in : {p : Pen} (a : Address) → Leads a → InPen p → InPen (gone p a)
+gone_in : {p : Pen} (a : Option Place) → Leads a → InPen p → InPen (gone p a)
 unfolding gone
-gone_in Nowhere k h = h
-gone_in (There x) k h = start_at_lem (entering_in x.row h) k
+gone_in None k h = h
+gone_in (Some x) k h = start_at_lem (entering_in x.row h) k
 
-again_in : {p : Pen} (l : Last) (n : ℕ) → InLast l → InPen p → InPlan (again p l n)
-again_in Never n k h = kept_in h
-again_in (Was x) n k h = record { pen = h; asked = k }
+again_in : {p : Pen} (l : Option Character) (n : ℕ) → InLast l → InPen p → InPlan (again p l n)
+again_in None n k h = kept_in h
+again_in (Some x) n k h = record { pen = h; asked = k }
 
 shown_in : {p : Pen} (b : Bool) → InPen p → InPen (with_shown p b)
 shown_in b h = record { here = h.here; kept = h.kept; last = h.last; sequence = h.sequence }

@@ -1,17 +1,14 @@
 -- What becomes of the grounds, the one in force and one that waits (01, "Screen cells"). Assumes nothing.
-use Rattle.std.specs.Prelude.{Bool, cond, ℕ, zero, suc, ◌%◌, eqb}
+use Rattle.std.specs.Prelude.{Option, Some, None, Bool, cond, ℕ, zero, suc, ◌%◌, eqb}
+use Rattle.screen_cells.specs.declared.Character.{Character}
 use Rattle.screen_addresses.specs.Addressing.{good}
 use Rattle.screen_sequences.specs.declared.Order.{Order}
 use Rattle.screen_sequences.specs.declared.Order.TheVariants.{Skip, Left, Right, Up, Down, First, Clear, Home}
 use Rattle.screen_sequences.specs.declared.Order.TheVariants.{ShiftOut, ShiftIn, Show, Hide, Pair, Go, Write}
 use Rattle.screen_sequences.specs.declared.Order.TheVariants.{Second, Again}
 use Rattle.screen_cells.specs.Characters.{character, takes}
-use Rattle.screen_attributes.specs.declared.Waiting.{Waiting}
-use Rattle.screen_attributes.specs.declared.Waiting.TheVariants.{Nothing, Ground}
 use Rattle.screen_attributes.specs.declared.Zone.{Zone}
 use Rattle.screen_escapes.specs.Pairing.{names_ground}
-use Rattle.screen_pen.specs.declared.Last.{Last}
-use Rattle.screen_pen.specs.declared.Last.TheVariants.{Never, Was}
 use Rattle.screen_pen.specs.declared.Pen.{Pen}
 
 pub data Fate : Type 0 where
@@ -30,10 +27,10 @@ abbrev pub taken_where : Bool → Fate
 taken_where t = cond t taken left_alone
 
 -- the last character written n times more: "by REP at least once"
-abbrev pub again_fate : Last → ℕ → Fate
-again_fate Never n = left_alone
-again_fate (Was c) zero = left_alone
-again_fate (Was c) (suc n) = taken_where (takes c)
+abbrev pub again_fate : Option Character → ℕ → Fate
+again_fate None n = left_alone
+again_fate (Some c) zero = left_alone
+again_fate (Some c) (suc n) = taken_where (takes c)
 
 -- by what is ordered: a character that takes a ground, ESC 5/x, FF, RS, a good US, LF in row 0; every other order leaves
 -- grounds alone
@@ -57,15 +54,15 @@ fate p Show = left_alone
 fate p Hide = left_alone
 
 -- the ground in force once what waits is taken, where g was
-abbrev pub taken_from : Waiting → (ground : ℕ) → ℕ
-taken_from Nothing g = g
-taken_from (Ground x) g = x
+abbrev pub taken_from : Option ℕ → (ground : ℕ) → ℕ
+taken_from None g = g
+taken_from (Some x) g = x
 
 -- the ground in force and what waits after a fate
 abbrev pub outcome : Pen → Fate → Zone
 outcome p taken =
-    let z = p.here.attributes.zone in record { ground = taken_from z.waiting z.ground; waiting = Nothing }
-outcome p (awaited x) = record { ground = p.here.attributes.zone.ground; waiting = Ground x }
-outcome p dropped = record { ground = 0; waiting = Nothing }
+    let z = p.here.attributes.zone in record { ground = taken_from z.waiting z.ground; waiting = None }
+outcome p (awaited x) = record { ground = p.here.attributes.zone.ground; waiting = Some x }
+outcome p dropped = record { ground = 0; waiting = None }
 outcome p brought_back = p.kept.attributes.zone
 outcome p left_alone = p.here.attributes.zone

@@ -1,10 +1,8 @@
 -- What each order does to the pen, and what it asks of the cells (01, "Screen cells"). Assumes nothing.
-use Rattle.std.specs.Prelude.{true, false, cond, ℕ, eqb}
+use Rattle.std.specs.Prelude.{Option, Some, None, true, false, cond, ℕ, eqb}
 use Rattle.screen_cursor.specs.declared.Place.{Place}
 use Rattle.screen_cursor.specs.Places.{home}
 use Rattle.screen_motion.specs.Moves.{left_of, right_of, up_of, down_of, first_of}
-use Rattle.screen_addresses.specs.declared.Address.{Address}
-use Rattle.screen_addresses.specs.declared.Address.TheVariants.{Nowhere, There}
 use Rattle.screen_addresses.specs.Addressing.{addressed}
 use Rattle.screen_sequences.specs.declared.Order.{Order}
 use Rattle.screen_sequences.specs.declared.Order.TheVariants.{Skip, Left, Right, Up, Down, First, Clear, Home}
@@ -14,8 +12,6 @@ use Rattle.screen_cells.specs.declared.Character.{Character}
 use Rattle.screen_cells.specs.Characters.{character}
 use Rattle.screen_attributes.specs.Attributing.{start_of, shifted_out, shifted_in}
 use Rattle.screen_escapes.specs.Pairing.{paired}
-use Rattle.screen_pen.specs.declared.Last.{Last}
-use Rattle.screen_pen.specs.declared.Last.TheVariants.{Never, Was}
 use Rattle.screen_pen.specs.declared.Pen.{Pen}
 use Rattle.screen_planning.specs.declared.Asked.{Asked}
 use Rattle.screen_planning.specs.declared.Asked.TheVariants.{Nothing, Blank, Put}
@@ -35,11 +31,11 @@ puts p c n = asks p (Put c n)
 
 -- "the last character written, its set and code, is written n minus 64 times more"; "Only a fresh screen has no last
 -- character; then nothing happens"
-abbrev pub repeats : Last → ℕ → Asked
-repeats Never n = Nothing
-repeats (Was c) n = Put c n
+abbrev pub repeats : Option Character → ℕ → Asked
+repeats None n = Nothing
+repeats (Some c) n = Put c n
 
-abbrev pub again : Pen → Last → ℕ → Planned
+abbrev pub again : Pen → Option Character → ℕ → Planned
 again p l n = asks p (repeats l n)
 
 -- ---- moves
@@ -63,9 +59,9 @@ abbrev pub entering : Pen → ℕ → Pen
 entering p r = cond (eqb r 0) (cond (eqb p.here.place.row 0) p (keeping p)) p
 
 -- US: "cursor there, start attributes; else all three dropped"
-unfoldable pub gone : Pen → Address → Pen
-gone p Nowhere = p
-gone p (There x) = start_at (entering p x.row) x
+unfoldable pub gone : Pen → Option Place → Pen
+gone p None = p
+gone p (Some x) = start_at (entering p x.row) x
 
 -- ---- each order
 

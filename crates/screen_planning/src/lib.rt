@@ -12,7 +12,6 @@ ghost use Rattle.screen_planning.specs.Planning.{plan as plan_for};
 mod changing;
 mod orders;
 
-use changing::with_sequence;
 use orders::{keep_cells, obey};
 use screen_cells::Character;
 use screen_pen::Pen;
@@ -37,15 +36,13 @@ pub struct Planned {
 pub fn plan(pen: Pen, value: u8) -> Planned
     ensures { result ≡ plan_for pen value }
 {
-    if 127 < value {
-        return keep_cells(pen);
-    }
-    if screen_ranges::in_range(pen) {
-        let sequence = pen.sequence;
-        let heard = screen_sequences::hear(sequence, value);
-        let open = heard.sequence;
-        let order = heard.order;
-        obey(with_sequence(pen, open), order)
+    if value <= 127 && screen_ranges::in_range(pen) {
+        let heard = screen_sequences::hear(pen.sequence, value);
+        let pen = Pen {
+            sequence: heard.sequence,
+            ..pen
+        };
+        obey(pen, heard.order)
     } else {
         keep_cells(pen)
     }

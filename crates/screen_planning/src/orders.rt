@@ -2,11 +2,11 @@
 ghost use Rattle.std.specs.Prelude.{◌≡◌};
 ghost use Rattle.screen_planning.specs.Obeying.{keeps, repeats, obeyed};
 
-use crate::changing::{go, go_down, start_at, with_attributes, with_place, with_shown};
+use crate::changing::{go, go_down, start_at, with_attributes, with_place};
 use crate::{Asked, Planned};
 use screen_cells::Character;
 use screen_cursor::Place;
-use screen_pen::{Last, Pen};
+use screen_pen::Pen;
 use screen_sequences::Order;
 
 // Nothing is asked of the cells.
@@ -20,16 +20,17 @@ pub(crate) fn keep_cells(pen: Pen) -> Planned
 }
 
 // The last character so many times more, if there was one.
-fn repeat(last: Last, times: u8) -> Asked
+fn repeat(last: Option<Character>, times: u8) -> Asked
     ensures { result ≡ repeats last times }
 {
     match last {
-        Last::Never => Asked::Nothing,
-        Last::Was(character) => Asked::Put { character, times },
+        Some(character) => Asked::Put { character, times },
+        None => Asked::Nothing,
     }
 }
 
 // What an order makes of the pen. A character moves it only when it is written.
+#[tactic(auto, unfolding(crate::specs::Obeying::obeyed))]
 fn change(pen: Pen, order: Order) -> Pen
     ensures { result ≡ (obeyed pen order).pen }
 {
@@ -40,12 +41,14 @@ fn change(pen: Pen, order: Order) -> Pen
         Order::Up => with_place(pen, screen_motion::up(pen.here.place)),
         Order::Down => go_down(pen),
         Order::First => with_place(pen, screen_motion::first(pen.here.place)),
-        Order::Clear => start_at(pen, home),
-        Order::Home => start_at(pen, home),
+        Order::Clear | Order::Home => start_at(pen, home),
         Order::ShiftOut => with_attributes(pen, pen.here.attributes.shift_out()),
         Order::ShiftIn => with_attributes(pen, pen.here.attributes.shift_in()),
-        Order::Show => with_shown(pen, true),
-        Order::Hide => with_shown(pen, false),
+        Order::Show => Pen { shown: true, ..pen },
+        Order::Hide => Pen {
+            shown: false,
+            ..pen
+        },
         Order::Pair(code) => with_attributes(pen, screen_escapes::pair(pen.here.attributes, code)),
         Order::Go { row, column } => go(pen, screen_addresses::locate(row, column)),
         _ => pen,
@@ -53,6 +56,7 @@ fn change(pen: Pen, order: Order) -> Pen
 }
 
 // What it asks of the cells.
+#[tactic(auto, unfolding(crate::specs::Obeying::obeyed))]
 fn ask(pen: Pen, order: Order) -> Asked
     ensures { result ≡ (obeyed pen order).asked }
 {
@@ -69,20 +73,17 @@ fn ask(pen: Pen, order: Order) -> Asked
             character: Character { set: 2, code },
             times: 1,
         },
-        Order::Again(times) => {
-            let last = pen.last;
-            repeat(last, times)
-        }
+        Order::Again(times) => repeat(pen.last, times),
         _ => Asked::Nothing,
     }
 }
 
+#[tactic(auto, unfolding(crate::specs::Obeying::obeyed))]
 pub(crate) fn obey(pen: Pen, order: Order) -> Planned
     ensures { result ≡ obeyed pen order }
 {
-    let asked = ask(pen, order);
     Planned {
         pen: change(pen, order),
-        asked,
+        asked: ask(pen, order),
     }
 }

@@ -8,48 +8,33 @@ ghost use Rattle.screen_sequences.specs.Sequences.{in_range as good_sequence};
 ghost use Rattle.screen_attributes.specs.Within.{good_waiting, good_zone, good};
 ghost use Rattle.screen_pen.specs.Pens.{good_last, good_spot, in_range};
 
-use screen_attributes::{Attributes, Waiting, Zone};
-use screen_pen::{Last, Pen, Spot};
+use screen_attributes::{Attributes, Zone};
+use screen_cells::Character;
+use screen_pen::{Pen, Spot};
 use screen_sequences::Sequence;
 
-fn last_in_range(last: Last) -> bool
+fn last_in_range(last: Option<Character>) -> bool
     ensures { result ≡ good_last last }
 {
-    match last {
-        Last::Never => true,
-        Last::Was(character) => screen_cells::is_character(character),
-    }
+    last.is_none_or(screen_cells::is_character)
 }
 
-fn waiting_in_range(waiting: Waiting) -> bool
+fn waiting_in_range(waiting: Option<u8>) -> bool
     ensures { result ≡ good_waiting waiting }
 {
-    match waiting {
-        Waiting::Nothing => true,
-        Waiting::Ground(colour) => colour <= 7,
-    }
+    waiting.is_none_or(|colour| colour <= 7)
 }
 
 fn zone_in_range(zone: Zone) -> bool
     ensures { result ≡ good_zone zone }
 {
-    if 7 < zone.ground {
-        return false;
-    }
-    let waiting = zone.waiting;
-    waiting_in_range(waiting)
+    zone.ground <= 7 && waiting_in_range(zone.waiting)
 }
 
 fn attributes_in_range(attributes: Attributes) -> bool
     ensures { result ≡ good attributes }
 {
-    if 1 < attributes.set {
-        return false;
-    }
-    if 7 < attributes.ink {
-        return false;
-    }
-    zone_in_range(attributes.zone)
+    attributes.set <= 1 && attributes.ink <= 7 && zone_in_range(attributes.zone)
 }
 
 // Whether the rules leave such a sequence unfinished.
@@ -57,53 +42,25 @@ fn sequence_in_range(sequence: Sequence) -> bool
     ensures { result ≡ good_sequence sequence }
 {
     match sequence {
-        Sequence::Free => true,
-        Sequence::Escape => true,
-        Sequence::Long => true,
-        Sequence::Control => true,
-        Sequence::Separator => true,
-        Sequence::Repeat => true,
-        Sequence::Single => true,
-        Sequence::Address => true,
-        Sequence::Row(row) => {
-            if row < 32 {
-                return false;
-            }
-            if 127 < row {
-                return false;
-            }
-            true
-        }
+        Sequence::Row(row) => (32..=127).contains(&row),
+        _ => true,
     }
 }
 
 // A place on the screen, with attributes in range.
+#[tactic(auto, unfolding(screen_pen::specs::Pens::good_spot))]
 fn spot_in_range(spot: Spot) -> bool
     ensures { result ≡ good_spot spot }
 {
-    if spot.place.on_screen() {
-        attributes_in_range(spot.attributes)
-    } else {
-        false
-    }
+    spot.place.on_screen() && attributes_in_range(spot.attributes)
 }
 
+#[tactic(auto, unfolding(screen_pen::specs::Pens::in_range))]
 pub fn in_range(pen: Pen) -> bool
     ensures { result ≡ in_range pen }
 {
-    if spot_in_range(pen.here) {
-        if spot_in_range(pen.kept) {
-            let last = pen.last;
-            if last_in_range(last) {
-                let sequence = pen.sequence;
-                sequence_in_range(sequence)
-            } else {
-                false
-            }
-        } else {
-            false
-        }
-    } else {
-        false
-    }
+    spot_in_range(pen.here)
+        && spot_in_range(pen.kept)
+        && last_in_range(pen.last)
+        && sequence_in_range(pen.sequence)
 }

@@ -9,16 +9,6 @@ impl Sequence {
     pub(crate) fn is_separator(self) -> bool
         ensures { result ≡ is_separator self }
     {
-        match self {
-            Sequence::Free => false,
-            Sequence::Escape => false,
-            Sequence::Long => false,
-            Sequence::Control => false,
-            Sequence::Separator => true,
-            Sequence::Repeat => false,
-            Sequence::Single => false,
-            Sequence::Address => false,
-            Sequence::Row(_) => false,
-        }
+        matches!(self, Sequence::Separator)
     }
 }

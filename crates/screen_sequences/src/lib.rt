@@ -7,7 +7,7 @@
 #![tactic(auto)]
 
 ghost use Rattle.std.specs.Prelude.{◌≡◌};
-ghost use Rattle.screen_sequences.specs.Sequences.{order, begins, escaped};
+ghost use Rattle.screen_sequences.specs.Sequences.{does, opens, order, begins, escaped};
 ghost use Rattle.screen_sequences.specs.Sequences.{dropped, again, single, followed, heard};
 
 mod dropping;
@@ -71,6 +71,28 @@ pub struct Heard {
     pub order: Order,
 }
 
+impl Heard {
+    // The sequence ends, with this order.
+    fn does(order: Order) -> Heard
+        ensures { result ≡ does order }
+    {
+        Heard {
+            sequence: Sequence::Free,
+            order,
+        }
+    }
+
+    // The sequence goes on, and nothing is ordered.
+    fn opens(sequence: Sequence) -> Heard
+        ensures { result ≡ opens sequence }
+    {
+        Heard {
+            sequence,
+            order: Order::Skip,
+        }
+    }
+}
+
 // What a C0 code orders.
 fn ordered(value: u8) -> Order
     ensures { result ≡ order value }
@@ -109,21 +131,10 @@ fn begun(value: u8) -> Sequence
 fn pair(code: u8) -> Heard
     ensures { result ≡ escaped code }
 {
-    if code < 48 {
-        return Heard {
-            sequence: Sequence::Long,
-            order: Order::Skip,
-        };
-    }
-    if code == 91 {
-        return Heard {
-            sequence: Sequence::Control,
-            order: Order::Skip,
-        };
-    }
-    Heard {
-        sequence: Sequence::Free,
-        order: Order::Pair(code),
+    match code {
+        0..=47 => Heard::opens(Sequence::Long),
+        91 => Heard::opens(Sequence::Control),
+        _ => Heard::does(Order::Pair(code)),
     }
 }
 
@@ -131,21 +142,10 @@ fn pair(code: u8) -> Heard
 fn skip(sequence: Sequence, from: u8, code: u8) -> Heard
     ensures { result ≡ dropped sequence from code }
 {
-    if code < from {
-        return Heard {
-            sequence,
-            order: Order::Skip,
-        };
-    }
-    if 126 < code {
-        return Heard {
-            sequence,
-            order: Order::Skip,
-        };
-    }
-    Heard {
-        sequence: Sequence::Free,
-        order: Order::Skip,
+    if from <= code && code <= 126 {
+        Heard::does(Order::Skip)
+    } else {
+        Heard::opens(sequence)
     }
 }
 
@@ -154,14 +154,9 @@ fn repeat(code: u8) -> Heard
     ensures { result ≡ again code }
 {
     if code < 64 {
-        return Heard {
-            sequence: Sequence::Free,
-            order: Order::Skip,
-        };
-    }
-    Heard {
-        sequence: Sequence::Free,
-        order: Order::Again(code - 64),
+        Heard::does(Order::Skip)
+    } else {
+        Heard::does(Order::Again(code - 64))
     }
 }
 
@@ -170,14 +165,9 @@ fn second(code: u8) -> Heard
     ensures { result ≡ single code }
 {
     if code / 16 == 4 {
-        return Heard {
-            sequence: Sequence::Free,
-            order: Order::Skip,
-        };
-    }
-    Heard {
-        sequence: Sequence::Free,
-        order: Order::Second(code),
+        Heard::does(Order::Skip)
+    } else {
+        Heard::does(Order::Second(code))
     }
 }
 
@@ -186,27 +176,15 @@ fn follow(sequence: Sequence, code: u8) -> Heard
     ensures { result ≡ followed sequence code }
 {
     match sequence {
-        Sequence::Free => Heard {
-            sequence: Sequence::Free,
-            order: Order::Write(code),
-        },
+        Sequence::Free => Heard::does(Order::Write(code)),
         Sequence::Escape => pair(code),
         Sequence::Long => skip(sequence, 48, code),
         Sequence::Control => skip(sequence, 64, code),
-        Sequence::Separator => Heard {
-            sequence: Sequence::Free,
-            order: Order::Skip,
-        },
+        Sequence::Separator => Heard::does(Order::Skip),
         Sequence::Repeat => repeat(code),
         Sequence::Single => second(code),
-        Sequence::Address => Heard {
-            sequence: Sequence::Row(code),
-            order: Order::Skip,
-        },
-        Sequence::Row(row) => Heard {
-            sequence: Sequence::Free,
-            order: Order::Go { row, column: code },
-        },
+        Sequence::Address => Heard::opens(Sequence::Row(code)),
+        Sequence::Row(row) => Heard::does(Order::Go { row, column: code }),
     }
 }
 
@@ -214,24 +192,13 @@ fn follow(sequence: Sequence, code: u8) -> Heard
 pub fn hear(sequence: Sequence, value: u8) -> Heard
     ensures { result ≡ heard sequence value }
 {
-    if value == 0 {
-        return Heard {
-            sequence: sequence,
-            order: Order::Skip,
-        };
-    }
-    if 31 < value {
-        return follow(sequence, value);
-    }
-    if sequence.is_separator() {
-        return Heard {
-            sequence: Sequence::Free,
-            order: Order::Skip,
-        };
-    }
-    let begun = begun(value);
-    Heard {
-        sequence: begun,
-        order: ordered(value),
+    match value {
+        0 => Heard::opens(sequence),
+        32.. => follow(sequence, value),
+        _ if sequence.is_separator() => Heard::does(Order::Skip),
+        _ => Heard {
+            sequence: begun(value),
+            order: ordered(value),
+        },
     }
 }

@@ -1,13 +1,13 @@
 -- Which thousand cells are in range: those of which each one is. Assumes nothing.
-use Rattle.std.specs.Prelude.{Bool, true, ◌&&◌, List, [], ◌∷◌}
+use Rattle.std.specs.Prelude.{Bool, List, [], ◌∷◌}
+use Rattle.std.specs.List.{list_all}
 use Rattle.screen_cells.specs.declared.Cell.{Cell}
 use Rattle.screen_cells.specs.Cells.{good_cell, InCell}
 
 -- ---- the test
 
 unfoldable pub all_good : List Cell → Bool
-all_good [] = true
-all_good (c ∷ cs) = good_cell c && all_good cs
+all_good cs = list_all good_cell cs
 
 -- ---- the ranges
 

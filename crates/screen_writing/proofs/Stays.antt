@@ -2,21 +2,20 @@
 use mathlib.Core.Path.{sym, subst}
 use mathlib.Core.Bool.{Bool}
 use native.Mathlib.Omega.{arith}
+use Rattle.std.specs.Prelude.{Option, Some, None, ℕ}
 use Rattle.laws.proofs.Computed.{chosen}
 use Rattle.screen_cells.specs.declared.Character.{Character}
 use Rattle.screen_cells.specs.Characters.{takes, InCharacter}
 use Rattle.screen_cells.specs.Cells.{InCell}
-use Rattle.screen_attributes.specs.declared.Waiting.{Waiting}
-use Rattle.screen_attributes.specs.declared.Waiting.TheVariants.{Nothing, Ground}
 use Rattle.screen_attributes.specs.declared.Zone.{Zone}
 use Rattle.screen_attributes.specs.declared.Attributes.{Attributes}
 use Rattle.screen_attributes.specs.Within.{InWaiting, InZone, InForce}
 use Rattle.screen_writing.specs.Writing.{after_waiting, after_writing, cell_of}
 use Rattle.screen_writing.proofs.Having.{cell_has}
 
-waited_in : {z : Zone} (w : Waiting) (t : Bool) → InWaiting w → InZone z → InZone (after_waiting w z t)
-waited_in Nothing t k h = h
-waited_in (Ground g) t k h = chosen InZone t (λ e. record { ground = k; waiting = tt }) (λ e. h)
+waited_in : {z : Zone} (w : Option ℕ) (t : Bool) → InWaiting w → InZone z → InZone (after_waiting w z t)
+waited_in None t k h = h
+waited_in (Some g) t k h = chosen InZone t (λ e. record { ground = k; waiting = tt }) (λ e. h)
 
 pub write_in : {a : Attributes} (x : Character) → InForce a → InForce (after_writing a x)
 write_in {a} x h =

@@ -1,21 +1,19 @@
 -- A character written: the ground that it takes, and its cell (01, "Screen cells"). Assumes nothing.
-use Rattle.std.specs.Prelude.{Bool, cond, ℕ}
+use Rattle.std.specs.Prelude.{Option, Some, None, Bool, cond, ℕ}
 use Rattle.screen_cells.specs.declared.Character.{Character}
 use Rattle.screen_cells.specs.declared.Cell.{Cell}
 use Rattle.screen_cells.specs.Characters.{takes}
-use Rattle.screen_attributes.specs.declared.Waiting.{Waiting}
-use Rattle.screen_attributes.specs.declared.Waiting.TheVariants.{Nothing, Ground}
 use Rattle.screen_attributes.specs.declared.Zone.{Zone}
 use Rattle.screen_attributes.specs.declared.Attributes.{Attributes}
 use Rattle.screen_writing.specs.declared.Written.{Written}
 
 -- the ground is in force, and none waits
 abbrev pub taking : (ground : ℕ) → Zone
-taking g = record { ground = g; waiting = Nothing }
+taking g = record { ground = g; waiting = None }
 
-abbrev pub after_waiting : Waiting → Zone → Bool → Zone
-after_waiting Nothing z t = z
-after_waiting (Ground g) z t = cond t (taking g) z
+abbrev pub after_waiting : Option ℕ → Zone → Bool → Zone
+after_waiting None z t = z
+after_waiting (Some g) z t = cond t (taking g) z
 
 -- what is serial with a character and after it: "which takes it and all later ones"
 abbrev pub zone_after : Zone → Character → Zone

@@ -9,7 +9,7 @@
 ghost use Rattle.std.specs.Prelude.{◌≡◌};
 ghost use Rattle.screen_writing.specs.Writing.{zone_after, written};
 
-use screen_attributes::{Attributes, Waiting, Zone};
+use screen_attributes::{Attributes, Zone};
 use screen_cells::{Cell, Character};
 
 // One character written: the attributes in force with and after it, and its cell.
@@ -23,19 +23,12 @@ pub struct Written {
 fn pass(zone: Zone, character: Character) -> Zone
     ensures { result ≡ zone_after zone character }
 {
-    let waiting = zone.waiting;
-    match waiting {
-        Waiting::Nothing => zone,
-        Waiting::Ground(colour) => {
-            if screen_cells::takes_ground(character) {
-                Zone {
-                    ground: colour,
-                    waiting: Waiting::Nothing,
-                }
-            } else {
-                zone
-            }
-        }
+    match zone.waiting {
+        Some(colour) if screen_cells::takes_ground(character) => Zone {
+            ground: colour,
+            waiting: None,
+        },
+        _ => zone,
     }
 }
 
@@ -43,9 +36,10 @@ fn pass(zone: Zone, character: Character) -> Zone
 pub fn write(attributes: Attributes, character: Character) -> Written
     ensures { result ≡ written attributes character }
 {
-    let zone = pass(attributes.zone, character);
-    let mut next = attributes;
-    next.zone = zone;
+    let next = Attributes {
+        zone: pass(attributes.zone, character),
+        ..attributes
+    };
     let cell = Cell {
         character,
         ink: next.ink,

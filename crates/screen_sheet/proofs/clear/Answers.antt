@@ -1,34 +1,28 @@
--- `screen_sheet::clear` meets its contract: row 0 is copied over a thousand blank cells. Assumes nothing.
-use mathlib.Core.Path.{◌≡◌, ap, ◌∙◌}
-use mathlib.Core.List.{List, ◌++◌}
-use Prim.Native.Nat.{ℕ, ◌<◌}
+-- `screen_sheet::clear` meets its contract: what stands after row 0 is filled with blank cells. Assumes nothing.
+use mathlib.Core.Path.{◌≡◌}
+use mathlib.Core.List.{List, [], ◌++◌, append-nil}
+use Prim.Native.Nat.{ℕ, ◌+◌}
 use native.Mathlib.Omega.{arith}
-use lib.Dec.{lit≤}
-use lib.ListN.{length, get_or, take, drop, set, replicate}
-use Rattle.laws.proofs.Lists.{put, length_mapped}
+use lib.ListN.{length, replicate, take, drop, length-drop, drop_of_length-le}
+use lib.Seq.{length-take-le}
+use borrow.Rule.Slice.PartMut.{put_mid}
+use Rattle.laws.proofs.Lists.{length_mapped}
 use Rattle.screen_cells.specs.declared.Cell.{Cell}
 use Rattle.screen_cells.specs.Cells.{blank_of}
 use Rattle.screen_sheet.specs.Clearing.{cleared}
-use Rattle.screen_sheet.proofs.Stays.{no_cell}
 use Rattle.screen_sheet.proofs.clear.Goals as goal
 
-pub loop-i-init : goal.loop-i-init
-loop-i-init c = (lit≤ tt, ap (λ (b : Cell). replicate 1000 b) c.blank-blank.ensures)
-
-pub loop-i-preserved : goal.loop-i-preserved
-loop-i-preserved c =
-    let s = c.args.old in
-    let i = c.loop-i.i in
-    let n : length s ≡ 1000 = search (length_mapped, c.well_formed.0) in
-    let h : i < length s = omega arith in
-    let k : i < length (replicate 1000 blank_of) = omega arith in (
-      omega arith,
-      ap (λ (cs : List Cell). set cs i (get_or s i no_cell)) c.loop-i.invariant.1
-          ∙ put s (replicate 1000 blank_of) i no_cell h k,
-    )
+-- the last k of n + k elements, all of them filled with one value
+filled : (n k : ℕ) (cs ds : List Cell) (x y : Cell) → length cs ≡ n + k
+    → ds ≡ replicate (length (take k (drop n cs))) x → x ≡ y
+    → put_mid n k cs ds ≡ take n cs ++ replicate k y
+filled n k cs ds x y l e f =
+    let j : length (take k (drop n cs)) ≡ k = length-take-le k (drop n cs) (omega (arith, length-drop n cs)) in
+    let d : drop k (drop n cs) ≡ [] = drop_of_length-le (drop n cs) {i = k} (omega (arith, length-drop n cs)) in
+    simp (e, j, d, append-nil, f)
 
 pub returns : goal.returns
 unfolding cleared
 returns c =
-    let e : c.loop-i.i ≡ 40 = omega arith in
-    c.loop-i.invariant.1 ∙ ap (λ (i : ℕ). take i c.args.old ++ drop i (replicate 1000 blank_of)) e
+    filled 40 960 c.args.old c.fill.new.self c.blank.result blank_of (search (length_mapped, c.well_formed.0))
+    (c.fill.ensures.after (λ y e. e)) c.blank.ensures

@@ -1,35 +1,22 @@
 -- `screen::drawing::is_other` meets its contract. Assumes nothing.
-use mathlib.Core.Path.{◌≡◌, refl}
-use mathlib.Core.Bool.{false}
-use mathlib.Core.List.{List, [], ◌∷◌}
-use Prim.Native.Nat.{ℕ}
-use types.Run.{OneOf, miss}
-use denote.Enum.Declared.{tag_of}
-use borrow.Author.Rules.{rules}
-use Rattle.screen_sequences.specs.declared.Sequence.{Sequence}
-use Rattle.screen_sequences.specs.declared.Sequence.TheVariants.{Free, Escape, Long, Control, Separator, Repeat}
-use Rattle.screen_sequences.specs.declared.Sequence.TheVariants.{Single, Address, Row}
+use mathlib.Core.Path.{◌≡◌, sym, ap, ◌∙◌}
 use Rattle.screen_sequences.specs.Sequences.{is_free}
-use Rattle.screen_sequences.specs.contracts.Sequence.{the_type}
+use Rattle.std.proofs.lemmas.Bool.{false_from_ne_true}
+use Rattle.screen_sequences.proofs.Codes.{free}
 use Rattle.screen.specs.Others.{is_other}
 use Rattle.screen.proofs.drawing.is_other.Goals as goal
+use Rattle.screen.proofs.drawing.is_other.Goals.{in-Free, in_default, Joined-matches}
 
--- a sequence that is not free
-unfinished : (q : Sequence) → (q ≡ Free → ⊥) → is_free q ≡ false
-unfinished Free h = absurd (h refl)
-unfinished Escape h = refl
-unfinished Long h = refl
-unfinished Control h = refl
-unfinished Separator h = refl
-unfinished Repeat h = refl
-unfinished Single h = refl
-unfinished Address h = refl
-unfinished (Row r) h = refl
+matched : (c : Joined-matches) → is_free c.args.pen.sequence ≡ c.match-matches.matches
+matched c = elim c.match-matches.branch [
+  | in-Free w ↦ ap is_free w.in-Free.is ∙ sym w.matches-is
+  | in_default w ↦ false_from_ne_true _ (λ e. w.in_default.not-Free (free _ e)) ∙ sym w.matches-is
+]
 
-pub returns-in_default : goal.returns-in_default
+pub returns-then-not-matches : goal.returns-then-not-matches
 unfolding is_other
-returns-in_default c = simp (unfinished c.args.pen.sequence c.in_default.not-Free)
+returns-then-not-matches c = simp (matched (goal.at.returns-then-not-matches c).Joined-matches, c.if-not-matches.true)
 
-pub returns : goal.returns
+pub returns-else-not-matches : goal.returns-else-not-matches
 unfolding is_other
-returns c = simp c.in-Free.is
+returns-else-not-matches c = simp (matched (goal.at.returns-else-not-matches c).Joined-matches, c.if-not-matches.false)
