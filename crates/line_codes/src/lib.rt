@@ -8,8 +8,9 @@
 ghost use Rattle.std.specs.Prelude.{◌≡◌};
 ghost use Rattle.line_codes.specs.Codes.{plainly, next, four as four_of, request as request_for, listened};
 
-// What a byte makes of the waiting for a block.
-#[derive(Clone, Copy)]
+// What a byte makes of the waiting for a block. No Option: to have seen none is not to have resumed, and each of the two
+// is an outcome of its own.
+#[derive(Clone, Copy, PartialEq, Eq)]
 pub enum Listened {
     // So many synchronising codes are seen, 0 to 2.
     Seen(u8),
@@ -54,15 +55,10 @@ pub fn listen(number: u8, seen: u8, byte: u8) -> Listened
     ensures { result ≡ listened number seen byte }
 {
     if byte == 150 {
-        if seen < 2 {
-            return Listened::Seen(seen + 1);
-        }
-        return Listened::Seen(2);
+        Listened::Seen(if seen < 2 { seen + 1 } else { 2 })
+    } else if seen == 2 && byte == four(number) {
+        Listened::Resumed
+    } else {
+        Listened::Seen(0)
     }
-    if seen == 2 {
-        if byte == four(number) {
-            return Listened::Resumed;
-        }
-    }
-    Listened::Seen(0)
 }

@@ -1,6 +1,6 @@
 // Demands 2 and 3 on the line: the receiver over whole runs. A run is a list of events, bytes and calls of the host
 // in any order, from any state in range; a new receiver is one.
-ghost use Rattle.std.specs.Prelude.{◌≡◌, true, false, List, [], ◌∷◌, ◌++◌, map, ◌⊎◌, ℕ, ◌+◌, ◌*◌, ◌%◌, ◌≤◌, ◌<◌, length, get_or, take, drop, replicate};
+ghost use Rattle.std.specs.Prelude.{◌≡◌, true, false, List, [], ◌∷◌, ◌++◌, map, ◌⊎◌, ℕ, ◌+◌, ◌*◌, ◌%◌, ◌≤◌, ◌<◌, length, get_or, take, drop, replicate, Some, None};
 ghost use Rattle.values.specs.Large.{Values};
 ghost use Rattle.block_parity.specs.Parity.{even, with_parity};
 ghost use Rattle.block_validity.specs.Block.{Valid};
@@ -12,7 +12,6 @@ ghost use Rattle.block_reader.specs.Claims.{NoneNear, OnlyNear};
 ghost use Rattle.line_codes.specs.Codes.{numbers, syn, nack, four, request, Ends, Nowhere};
 ghost use Rattle.line_phases.specs.declared.Phase.TheVariants.{Off, Collecting, Waiting};
 ghost use Rattle.line_receiver.specs.declared.Receiver.{Receiver};
-ghost use Rattle.line_receiver.specs.declared.Judged.TheVariants.{Nothing, Block};
 ghost use Rattle.line_receiver.specs.States.{InReceiver, emptied, new_receiver};
 ghost use Rattle.line_receiver.specs.Calls.{silent, stepped, switched_on, switched_off, asked_again};
 ghost use Rattle.line_receiver.specs.Runs.{Event, byte, on, obey, run, Sent, sent_by, sent, all_passed, all_asked};
@@ -44,9 +43,9 @@ pub fn the_number_counts_accepted_blocks()
 pub fn while_off_each_byte_passes_by_itself()
     ensures even { (r : Receiver) → InReceiver r → r.phase ≡ Off → (v : ℕ) → v < 128
         → ((stepped r (with_parity v)).next ≡ r)
-        × (sent_by (stepped r (with_parity v)) ≡ passes (v ∷ []) Nothing) }
+        × (sent_by (stepped r (with_parity v)) ≡ passes (v ∷ []) None) }
     ensures odd { (r : Receiver) → InReceiver r → r.phase ≡ Off → (b : ℕ) → even b ≡ false
-        → ((stepped r b).next ≡ r) × (sent_by (stepped r b) ≡ passes (127 ∷ []) Nothing) }
+        → ((stepped r b).next ≡ r) × (sent_by (stepped r b) ≡ passes (127 ∷ []) None) }
 {}
 
 // At any call nothing is asked; or NACK and 4/X are, with parity, X the number awaited, which stays, and the receiver
@@ -81,10 +80,10 @@ pub fn every_run_follows_the_page()
 pub fn each_seventeenth_byte_is_judged()
     ensures near { (x : ℕ) (B : List ℕ) → x < 16 → length B ≡ 17 → (C : List ℕ) → OnlyNear B C
         → (run (emptied x Collecting) (map byte B) ≡ emptied ((x + 1) % 16) Collecting)
-        × (sent (emptied x Collecting) (map byte B) ≡ at_last (passes (values_of C) (Block (verdict B)))) }
+        × (sent (emptied x Collecting) (map byte B) ≡ at_last (passes (values_of C) (Some (verdict B)))) }
     ensures none { (x : ℕ) (B : List ℕ) → x < 16 → length B ≡ 17 → NoneNear B
         → (run (emptied x Collecting) (map byte B) ≡ emptied x (Waiting 0))
-        × (sent (emptied x Collecting) (map byte B) ≡ at_last (asks x (Block Repeat))) }
+        × (sent (emptied x Collecting) (map byte B) ≡ at_last (asks x (Some Repeat))) }
 {}
 
 // Up to the next switching: while SYN, SYN, 4/X of the awaited number stand nowhere in the bytes, the receiver waits,

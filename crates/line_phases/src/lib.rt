@@ -6,7 +6,7 @@
 ghost use Rattle.std.specs.Prelude.{◌≡◌};
 ghost use Rattle.line_phases.specs.Phases.{at_start, awaits_more, in_range};
 
-#[derive(Clone, Copy)]
+#[derive(Clone, Copy, PartialEq, Eq)]
 pub enum Phase {
     Off,
     Collecting,
@@ -34,15 +34,10 @@ pub fn awaits_more(count: usize) -> bool
 pub fn in_range(number: u8, count: usize, phase: Phase) -> bool
     ensures { result ≡ in_range number count phase }
 {
-    if 16 <= number {
-        return false;
-    }
-    if 17 <= count {
-        return false;
-    }
-    match phase {
-        Phase::Off => true,
-        Phase::Collecting => true,
-        Phase::Waiting(seen) => seen < 3,
-    }
+    number < 16
+        && count < 17
+        && match phase {
+            Phase::Off | Phase::Collecting => true,
+            Phase::Waiting(seen) => seen < 3,
+        }
 }

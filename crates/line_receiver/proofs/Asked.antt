@@ -59,7 +59,7 @@ again_gives r g = ap sent_by (again_as r g) ∙ again_sends r.phase r
 
 -- none or two bytes are asked, and so many are there
 abbrev pub Counted : Stepped → Type 0
-Counted s = (s.asked ≤ 2) × (length (sent_by s).asked ≡ s.asked)
+Counted s = (s.request.count ≤ 2) × (length (sent_by s).asked ≡ s.request.count)
 
 judged_counted : (v : Verdict) (x : ℕ) (vs : List ℕ) → Counted (judged_as v x vs)
 judged_counted v x vs = chosen Counted (accepts v) (λ a. (omega arith, refl)) (λ a. (omega arith, refl))
@@ -81,7 +81,7 @@ pub fifteen : (B : List ℕ) → length (values_of B) ≤ 15
 fifteen B = let m = length-map (take 15 B) (λ (b : ℕ). b % 128) in omega (arith, m, take_short 15 B)
 
 abbrev Few : Stepped → Type 0
-Few s = s.passed ≤ 15
+Few s = s.values.count ≤ 15
 
 phase_few : (p : Phase) (r : Receiver) (b : ℕ) → Few (by_phase p r b)
 phase_few Off r b = omega arith
@@ -90,5 +90,5 @@ phase_few Collecting r b =
     (λ h. chosen Few (accepts (verdict (whole r b))) (λ a. fifteen (left (whole r b))) (λ a. omega arith))
 phase_few (Waiting n) r b = omega arith
 
-pub passed_few : (r : Receiver) (b : ℕ) → (stepped r b).passed ≤ 15
+pub passed_few : (r : Receiver) (b : ℕ) → (stepped r b).values.count ≤ 15
 passed_few r b = chosen Few (in_range r) (λ i. phase_few r.phase r b) (λ i. omega arith)

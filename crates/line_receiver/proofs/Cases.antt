@@ -1,47 +1,57 @@
 -- The definitions of specs/Calls by cases, as the code meets them. Assumes nothing.
 use mathlib.Core.Path.{◌≡◌, sym, ap, ap₂, ◌∙◌}
-use mathlib.Core.Bool.{Bool, true, cond}
+use mathlib.Core.Bool.{Bool, true, false, cond}
 use mathlib.Core.List.{List, ◌++◌, append-nil}
 use Prim.Native.Nat.{ℕ, ◌-◌}
 use native.Mathlib.Omega.{arith}
-use lib.ListN.{length, replicate}
+use lib.ListN.{length, replicate, take}
+use lib.Seq.{take_all}
+use Rattle.std.specs.Prelude.{Some}
+use Rattle.few.specs.Bytes.{few}
+use Rattle.few.specs.declared.Few.{Few}
 use Rattle.block_maker.specs.Making.{values_of}
 use Rattle.block_reader.specs.declared.Verdict.{Verdict}
 use Rattle.block_reader.specs.Judging.{left, told, judged}
 use Rattle.block_reader.proofs.Handed.{told_verdict}
+use Rattle.line_codes.specs.Codes.{next}
 use Rattle.line_phases.specs.declared.Phase.{Phase}
+use Rattle.line_phases.specs.declared.Phase.TheVariants.{Collecting}
 use Rattle.line_receiver.specs.declared.Receiver.{Receiver}
-use Rattle.line_receiver.specs.declared.Judged.{Judged}
-use Rattle.line_receiver.specs.declared.Judged.TheVariants.{Block}
 use Rattle.line_receiver.specs.declared.Stepped.{Stepped}
-use Rattle.line_receiver.specs.States.{in_range}
-use Rattle.line_receiver.specs.Calls.{padded, refused, accepted, repeated, accepts, judged_as, whole}
+use Rattle.line_receiver.specs.States.{in_range, emptied}
+use Rattle.line_receiver.specs.Calls.{silent, refused, accepted, repeated, accepts, judged_as, whole}
 use Rattle.line_receiver.specs.Calls.{judged_held, by_phase, stepped, again_by, asked_again}
 
-pub padded_full : (n : ℕ) (vs : List ℕ) → length vs ≡ n → vs ≡ padded n vs
-padded_full n vs l =
+-- an array of n values is full
+pub full : (n : ℕ) (vs : List ℕ) → length vs ≡ n → vs ≡ (few n vs).codes
+full n vs l =
     let z : n - length vs ≡ 0 = omega arith in
     sym (append-nil vs) ∙ ap (λ (k : ℕ). vs ++ replicate k 0) (sym z)
 
--- an array of n values in all that a call hands back, the others silent
-abbrev pub handing : Receiver → List ℕ → ℕ → Judged → Stepped
-handing r vs n j =
-    record { next = r; answer = 0; values = vs; passed = n; request = replicate 2 0; asked = 0; judged = j }
+-- silent but for values that pass, and a verdict
+abbrev handing : Stepped → Few 15 → Verdict → Stepped
+handing s values v =
+    record { next = s.next; answer = s.answer; values = values; request = s.request; judged = Some v }
 
-pub accepting : (x : ℕ) (vs : List ℕ) (v : Verdict) {r : Receiver} → r ≡ (accepted x vs v).next
-    → length vs ≡ 15 → handing r vs 15 (Block v) ≡ accepted x vs v
-accepting x vs v {r} e l =
-    ap (λ (q : Receiver). handing q vs 15 (Block v)) e
-    ∙ ap₂ (λ (a : List ℕ) (n : ℕ). handing (accepted x vs v).next a n (Block v)) (padded_full 15 vs l) (sym l)
-
+-- the verdict v, and the block C that is left
 module _ (r : Receiver) (b : ℕ) (v : Verdict) (C : List ℕ)
     (m : (told v ≡ judged (whole r b)) × (C ≡ left (whole r b))) where
-  pub as_judged : {t : Bool} → accepts v ≡ t
+  as_judged : {t : Bool} → accepts v ≡ t
       → cond t (accepted r.number (values_of C) v) (repeated r.number v) ≡ judged_held r b
   as_judged e =
       ap (λ (t : Bool). cond t (accepted r.number (values_of C) v) (repeated r.number v)) (sym e)
       ∙ ap₂ (λ (w : Verdict) (B : List ℕ). judged_as w r.number (values_of B)) (told_verdict (whole r b) v m.0)
       m.1
+
+  pub passed_on : accepts v ≡ true → (s : Stepped) → s ≡ silent (emptied (next r.number) Collecting) → {f : Few 15}
+      → {vs : List ℕ} → f ≡ few 15 (take 15 vs) → vs ≡ values_of C → length vs ≡ 15 → handing s f v ≡ judged_held r b
+  passed_on e s q {f} {vs} p h l =
+      ap₂ (λ (s : Stepped) (f : Few 15). handing s f v) q p
+      ∙ ap (λ (us : List ℕ). accepted r.number us v) (take_all 15 vs (omega arith) ∙ h)
+      ∙ as_judged e
+
+  pub asked_for : accepts v ≡ false → (s : Stepped) → s ≡ repeated r.number v → s ≡ judged_held r b
+  asked_for e s f = f ∙ as_judged e
 
 module _ (r : Receiver) (p : Phase) (e : in_range r ≡ true) (f : r.phase ≡ p) where
   pub step_in : (b : ℕ) → by_phase p r b ≡ stepped r b

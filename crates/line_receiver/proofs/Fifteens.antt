@@ -6,17 +6,17 @@ use mathlib.Core.Logic.{◌⊎◌, inl, inr}
 use Prim.Native.Nat.{ℕ, zero, suc, ◌+◌, ◌-◌, ◌*◌, ◌≤◌, ◌<◌, suc-le-suc}
 use native.Mathlib.Nat.{zero-lt-suc, not-suc-le-zero, le_of_suc-le-suc}
 use native.Mathlib.Omega.{arith}
-use lib.ListN.{length, get_or, take, drop, replicate, length-append, length-replicate, length-drop}
+use lib.ListN.{length, get_or, take, drop, replicate, length-append, length-replicate, length-take, length-drop}
 use lib.ListN.{take-append-drop, drop_of_length-le, replicate-append-replicate}
 use lib.Seq.{take_all, length-take-le, take-append-add}
 use Rattle.laws.proofs.Computed.{apart}
+use Rattle.few.specs.Bytes.{few}
 use Rattle.values.specs.Large.{Values}
 use Rattle.block_validity.specs.Block.{Valid}
 use Rattle.block_maker.specs.Making.{block_of}
 use Rattle.block_maker.proofs.Blocks.{made_valid}
-use Rattle.line_receiver.specs.Calls.{padded}
 use Rattle.line_receiver.specs.Line.{blocks_for, fifteens, filled, joined}
-use Rattle.line_receiver.proofs.Cases.{padded_full}
+use Rattle.line_receiver.proofs.Cases.{full}
 
 -- each can be made into a block
 abbrev pub Cut : List (List ℕ) → Type 0
@@ -39,9 +39,7 @@ values_drop (suc n) (v ∷ vs) f = values_drop n vs (λ j k. f (suc j) (suc-le-s
 
 -- there are at most as many as are taken
 pub take_short : (n : ℕ) (vs : List ℕ) → length (take n vs) ≤ n
-take_short zero vs = omega arith
-take_short (suc n) [] = omega arith
-take_short (suc n) (v ∷ vs) = let h : length (take n vs) ≤ n = take_short n vs in omega arith
+take_short n vs = omega (arith, length-take n vs)
 
 pub cut : (n : ℕ) (vs : List ℕ) → Values vs → Cut (fifteens n vs)
 unfolding fifteens
@@ -68,28 +66,20 @@ unfolding fifteens
 fifteens_length zero vs = refl
 fifteens_length (suc n) vs = ap suc (fifteens_length n (drop 15 vs))
 
-padded_length : (us : List ℕ) → length us ≤ 15 → length (padded 15 us) ≡ 15
+-- filled up to fifteen
+abbrev pub padded : List ℕ → List ℕ
+padded us = (few 15 us).codes
+
+padded_length : (us : List ℕ) → length us ≤ 15 → length (padded us) ≡ 15
 padded_length us h =
     length-append us (replicate (15 - length us) 0)
     ∙ ap (λ (n : ℕ). length us + n) (length-replicate (15 - length us) 0) ∙ omega arith
-
--- ---- maps and parts
-
-pub map_take : {A B : Type 0} (f : A → B) (j : ℕ) (l : List A) → take j (map f l) ≡ map f (take j l)
-map_take f zero l = refl
-map_take f (suc j) [] = refl
-map_take {B = B} f (suc j) (a ∷ l) = ap (λ (k : List B). f a ∷ k) (map_take f j l)
-
-pub map_drop : {A B : Type 0} (f : A → B) (j : ℕ) (l : List A) → drop j (map f l) ≡ map f (drop j l)
-map_drop f zero l = refl
-map_drop f (suc j) [] = refl
-map_drop f (suc j) (a ∷ l) = map_drop f j l
 
 -- ---- joined again
 
 -- filled up, one behind the other
 abbrev pub values : List (List ℕ) → List ℕ
-values uss = joined (map (padded 15) uss)
+values uss = joined (map padded uss)
 
 more_zeros : (vs : List ℕ) (a b c : ℕ) → a + b ≡ c → vs ++ replicate a 0 ++ replicate b 0 ≡ vs ++ replicate c 0
 more_zeros vs a b c e =
@@ -106,17 +96,17 @@ joins (suc n) vs h =
   where
     go : values (fifteens n (drop 15 vs)) ≡ drop 15 vs ++ replicate (15 * n - length (drop 15 vs)) 0
         → (length vs < 15) ⊎ (15 ≤ length vs)
-        → padded 15 (take 15 vs) ++ values (fifteens n (drop 15 vs)) ≡ vs ++ replicate (15 * suc n - length vs) 0
+        → padded (take 15 vs) ++ values (fifteens n (drop 15 vs)) ≡ vs ++ replicate (15 * suc n - length vs) 0
     go rest (inl l) =
         let z : drop 15 vs ≡ [] = drop_of_length-le vs {i = 15} (omega arith) in
-        ap₂ (λ (us ws : List ℕ). padded 15 us ++ ws) (take_all 15 vs (omega arith))
+        ap₂ (λ (us ws : List ℕ). padded us ++ ws) (take_all 15 vs (omega arith))
         (rest ∙ ap (λ (us : List ℕ). us ++ replicate (15 * n - length us) 0) z)
         ∙ more_zeros vs (15 - length vs) (15 * n - 0) (15 * suc n - length vs) (omega arith)
     go rest (inr g) =
         let d : length (drop 15 vs) ≡ length vs - 15 = length-drop 15 vs in
         let k : 15 * n - length (drop 15 vs) ≡ 15 * suc n - length vs = omega arith in
         ap₂ (λ (us ws : List ℕ). us ++ ws)
-        (sym (padded_full 15 (take 15 vs) (length-take-le 15 vs g)))
+        (sym (full 15 (take 15 vs) (length-take-le 15 vs g)))
         (rest ∙ ap (λ (m : ℕ). drop 15 vs ++ replicate m 0) k)
         ∙ sym (append_assoc (take 15 vs) (drop 15 vs) (replicate (15 * suc n - length vs) 0))
         ∙ ap (λ (us : List ℕ). us ++ replicate (15 * suc n - length vs) 0) (take-append-drop 15 vs)
@@ -132,14 +122,14 @@ first_values zero uss c h = refl
 first_values (suc j) [] c h = absurd (not-suc-le-zero h)
 first_values (suc j) (us ∷ uss) c h =
     let k : 15 * suc j ≡ 15 + 15 * j = omega arith in
-    ap (λ (l : List ℕ). padded 15 us ++ l) (first_values j uss c.2 (le_of_suc-le-suc h))
-    ∙ sym (take-append-add (padded 15 us) (values uss) (15 * j))
-    ∙ ap (λ (n : ℕ). take n (padded 15 us ++ values uss))
+    ap (λ (l : List ℕ). padded us ++ l) (first_values j uss c.2 (le_of_suc-le-suc h))
+    ∙ sym (take-append-add (padded us) (values uss) (15 * j))
+    ∙ ap (λ (n : ℕ). take n (padded us ++ values uss))
     (ap (λ (n : ℕ). n + 15 * j) (padded_length us c.0) ∙ sym k)
 
 pub both_values : (j : ℕ) (uss : List (List ℕ)) → values (take j uss) ++ values (drop j uss) ≡ values uss
 both_values zero uss = refl
 both_values (suc j) [] = refl
 both_values (suc j) (us ∷ uss) =
-    append_assoc (padded 15 us) (values (take j uss)) (values (drop j uss))
-    ∙ ap (λ (l : List ℕ). padded 15 us ++ l) (both_values j uss)
+    append_assoc (padded us) (values (take j uss)) (values (drop j uss))
+    ∙ ap (λ (l : List ℕ). padded us ++ l) (both_values j uss)

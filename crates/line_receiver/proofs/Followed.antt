@@ -1,15 +1,13 @@
 -- A receiver in range follows the page at every event of every run. Assumes nothing.
 use mathlib.Core.Path.{◌≡◌, refl, sym, ap, ap₂, ◌∙◌, subst, subst⁻¹}
-use mathlib.Core.Bool.{false}
 use mathlib.Core.List.{List, [], ◌∷◌, ◌++◌}
 use mathlib.Core.Logic.{inl, inr}
 use Prim.Native.Nat.{ℕ, ◌+◌, ◌%◌, ◌<◌}
 use native.Mathlib.Omega.{arith}
-use lib.Dec.{eqb}
 use lib.ListN.{length, take, length-append}
 use lib.Seq.{length-take-le}
-use borrow.Author.Tests.{eq-eqb}
-use Rattle.laws.proofs.Computed.{fails, holds}
+use Rattle.std.specs.Prelude.{Some, None}
+use Rattle.std.proofs.lemmas.List.{take_more_set}
 use Rattle.block_maker.specs.Making.{values_of}
 use Rattle.block_reader.specs.declared.Verdict.TheVariants.{Repeat}
 use Rattle.block_reader.specs.Judging.{verdict}
@@ -20,7 +18,6 @@ use Rattle.line_codes.proofs.Seen.{seen_in, seen_syns, Heard, heard}
 use Rattle.line_phases.specs.declared.Phase.{Phase}
 use Rattle.line_phases.specs.declared.Phase.TheVariants.{Off, Collecting, Waiting}
 use Rattle.line_receiver.specs.declared.Receiver.{Receiver}
-use Rattle.line_receiver.specs.declared.Judged.TheVariants.{Nothing, Block}
 use Rattle.line_receiver.specs.declared.Stepped.{Stepped}
 use Rattle.line_receiver.specs.States.{InReceiver}
 use Rattle.line_receiver.specs.Calls.{silent, listening, asked_again, stepped}
@@ -32,28 +29,9 @@ use Rattle.line_receiver.specs.Standing.{stand_in, stand_of, Stands}
 use Rattle.line_receiver.proofs.Ranges.{count_in, seen_in_lem}
 use Rattle.line_receiver.proofs.Cases.{again_in}
 use Rattle.line_receiver.proofs.Shape as shapes
-use Rattle.line_receiver.proofs.Shape.{Shape, shape, arrived, grown}
+use Rattle.line_receiver.proofs.Shape.{Shape, shape, arrived}
 use Rattle.line_receiver.proofs.Kept.{on_afresh, off_afresh, keeps}
 use Rattle.line_receiver.proofs.Outgoing.{sent_accepted}
-
--- ---- a phase is one phase
-
-abbrev pub kind : Phase → ℕ
-kind Off = 0
-kind Collecting = 1
-kind (Waiting n) = 2
-
-pub other_phase : {A : Type 0} {p : Phase} (q s : Phase) → p ≡ q → p ≡ s → eqb (kind q) (kind s) ≡ false → A
-other_phase q s e f ne = absurd (fails ne (holds (eq-eqb (kind q) (kind s) (ap kind (sym e ∙ f)))))
-
-seen_of : Phase → ℕ
-seen_of Off = 0
-seen_of Collecting = 0
-seen_of (Waiting n) = n
-
-same_seen : {n m : ℕ} → Waiting n ≡ Waiting m → n ≡ m
-unfolding seen_of
-same_seen e = ap seen_of e
 
 -- ---- where a receiver stands
 
@@ -87,10 +65,10 @@ Followed s e c = (t : Stand) × Rule s e (sent_by c) t × At c.next t
 
 from_idle : (r : Receiver) (b : ℕ) → At r idle → {c : Stepped} → Shape r b c → Followed idle (byte b) c
 from_idle r b a (shapes.plain f) = (idle, plain, a)
-from_idle r b a (shapes.more f k) = other_phase Collecting Off f a refl
-from_idle r b a (shapes.took f k C o) = other_phase Collecting Off f a refl
-from_idle r b a (shapes.none f k o) = other_phase Collecting Off f a refl
-from_idle r b a (shapes.listens n f) = other_phase (Waiting n) Off f a refl
+from_idle r b a (shapes.more f k) = absurd (cc)
+from_idle r b a (shapes.took f k C o) = absurd (cc)
+from_idle r b a (shapes.none f k o) = absurd (cc)
+from_idle r b a (shapes.listens n f) = absurd (cc)
 
 -- the bytes of the stretch with one more, at the seventeenth
 pub arrived_is : (r : Receiver) (b : ℕ) (h : List ℕ) → take r.count r.held ≡ h → r.count ≡ 16
@@ -100,7 +78,7 @@ arrived_is r b h e k =
 
 from_midway : (r : Receiver) (b x : ℕ) (h : List ℕ) → InReceiver r → At r (midway x h) → {c : Stepped} → Shape r b c
     → Followed (midway x h) (byte b) c
-from_midway r b x h g a (shapes.plain f) = other_phase Off Collecting f a.0 refl
+from_midway r b x h g a (shapes.plain f) = absurd (cc)
 from_midway r b x h g a (shapes.more f k) = (
   midway x (h ++ (b ∷ [])),
   held {h = h} (omega (arith, a.2)),
@@ -108,7 +86,7 @@ from_midway r b x h g a (shapes.more f k) = (
     a.0,
     a.1,
     ap (λ (n : ℕ). n + 1) a.2 ∙ sym (length-append h (b ∷ [])),
-    grown r.held r.count b (omega (arith, g.array)) ∙ ap (λ (l : List ℕ). l ++ (b ∷ [])) a.3,
+    take_more_set r.held r.count b (omega (arith, g.array)) ∙ ap (λ (l : List ℕ). l ++ (b ∷ [])) a.3,
   ),
 )
 from_midway r b x h g a (shapes.took f k C o) =
@@ -116,17 +94,17 @@ from_midway r b x h g a (shapes.took f k C o) =
       midway ((x + 1) % 16) [],
       subst⁻¹ (λ (s : Sent). Rule (midway x h) (byte b) s (midway ((x + 1) % 16) []))
           (sent_accepted r.number (values_of C) (verdict (arrived r b))
-          ∙ ap (λ (B : List ℕ). passes (values_of C) (Block (verdict B))) e)
+          ∙ ap (λ (B : List ℕ). passes (values_of C) (Some (verdict B))) e)
           (taken (sym a.2 ∙ k) (subst (λ (B : List ℕ). OnlyNear B C) e o)),
       (refl, ap (λ (n : ℕ). (n + 1) % 16) a.1, refl, refl),
     )
 from_midway r b x h g a (shapes.none f k o) = (
   awaiting x [],
-  subst⁻¹ (λ (n : ℕ). Rule (midway x h) (byte b) (asks n (Block Repeat)) (awaiting x [])) a.1
+  subst⁻¹ (λ (n : ℕ). Rule (midway x h) (byte b) (asks n (Some Repeat)) (awaiting x [])) a.1
       (refused (sym a.2 ∙ k) (subst NoneNear (arrived_is r b h a.3 k) o)),
   (ap Waiting (sym (seen_syns 0 (omega arith))), a.1),
 )
-from_midway r b x h g a (shapes.listens n f) = other_phase (Waiting n) Collecting f a.0 refl
+from_midway r b x h g a (shapes.listens n f) = absurd (cc)
 
 heard_from : (r : Receiver) (b x : ℕ) (ws : List ℕ) → At r (awaiting x ws)
     → Followed (awaiting x ws) (byte b) (silent (listening (listened x (seen_in ws) b) r))
@@ -144,14 +122,14 @@ heard_from r b x ws a = by (heard x ws b)
 pub same_listened : (r : Receiver) (b x n : ℕ) (ws : List ℕ) → At r (awaiting x ws) → r.phase ≡ Waiting n
     → listened r.number n b ≡ listened x (seen_in ws) b
 same_listened r b x n ws a f =
-    ap₂ (λ (y m : ℕ). listened y m b) a.1 (same_seen (sym f ∙ a.0))
+    let e : n ≡ seen_in ws = cc in ap₂ (λ (y m : ℕ). listened y m b) a.1 e
 
 from_awaiting : (r : Receiver) (b x : ℕ) (ws : List ℕ) → At r (awaiting x ws) → {c : Stepped} → Shape r b c
     → Followed (awaiting x ws) (byte b) c
-from_awaiting r b x ws a (shapes.plain f) = other_phase Off (Waiting (seen_in ws)) f a.0 refl
-from_awaiting r b x ws a (shapes.more f k) = other_phase Collecting (Waiting (seen_in ws)) f a.0 refl
-from_awaiting r b x ws a (shapes.took f k C o) = other_phase Collecting (Waiting (seen_in ws)) f a.0 refl
-from_awaiting r b x ws a (shapes.none f k o) = other_phase Collecting (Waiting (seen_in ws)) f a.0 refl
+from_awaiting r b x ws a (shapes.plain f) = absurd (cc)
+from_awaiting r b x ws a (shapes.more f k) = absurd (cc)
+from_awaiting r b x ws a (shapes.took f k C o) = absurd (cc)
+from_awaiting r b x ws a (shapes.none f k o) = absurd (cc)
 from_awaiting r b x ws a (shapes.listens n f) =
     subst⁻¹ (λ (l : Listened). Followed (awaiting x ws) (byte b) (silent (listening l r)))
     (same_listened r b x n ws a f) (heard_from r b x ws a)
@@ -170,7 +148,7 @@ ask_follows r (midway x h) g a =
 ask_follows r (awaiting x ws) g a =
     subst (Followed (awaiting x ws) ask) (again_in r (Waiting (seen_in ws)) g.range a.0) (
       awaiting x ws,
-      subst⁻¹ (λ (n : ℕ). Rule (awaiting x ws) ask (asks n Nothing) (awaiting x ws)) a.1 again,
+      subst⁻¹ (λ (n : ℕ). Rule (awaiting x ws) ask (asks n None) (awaiting x ws)) a.1 again,
       a,
     )
 

@@ -24,7 +24,7 @@ use Rattle.line_phases.specs.declared.Phase.TheVariants.{Collecting, Waiting}
 use Rattle.line_receiver.specs.declared.Receiver.{Receiver}
 use Rattle.line_receiver.specs.declared.Stepped.{Stepped}
 use Rattle.line_receiver.specs.States.{InReceiver, emptied}
-use Rattle.line_receiver.specs.Calls.{padded, silent, stepped}
+use Rattle.line_receiver.specs.Calls.{silent, stepped}
 use Rattle.line_receiver.specs.Runs.{byte, run, Sent, sent_by, sent, all_passed, all_asked, unswitched}
 use Rattle.line_receiver.specs.Runs.{bytes_of}
 use Rattle.line_receiver.specs.Page.{while_waiting, awaiting}
@@ -34,7 +34,7 @@ use Rattle.line_receiver.proofs.Kept.{emptied_in, runs_keep, run_append, sent_ap
 use Rattle.line_receiver.proofs.Followed.{At}
 use Rattle.line_receiver.proofs.Waits.{resumes, waits_on}
 use Rattle.line_receiver.proofs.Seventeen.{block_passes, block_asked}
-use Rattle.line_receiver.proofs.Fifteens.{Cut, values}
+use Rattle.line_receiver.proofs.Fifteens.{Cut, padded, values}
 
 -- ---- all that passes and is asked over bytes, and the state behind them
 
@@ -76,7 +76,7 @@ arrived_long W l same = l
 arrived_long W l (changed k h) = flip_length k W ∙ l
 
 block_heard : (us : List ℕ) {B : List ℕ} (x : ℕ) → length us ≤ 15 → Values us → x < 16 → Near mendable (block_of us) B
-    → Hears (emptied x Collecting) B (padded 15 us) [] (emptied ((x + 1) % 16) Collecting)
+    → Hears (emptied x Collecting) B (padded us) [] (emptied ((x + 1) % 16) Collecting)
 block_heard us {B} x l f h n =
     let v : Valid (block_of us) = made_valid us l in
     let p = block_passes x B h (arrived_long (block_of us) (valid_length (block_of us) v) n) (block_of us)

@@ -3,10 +3,10 @@ use mathlib.Core.Path.{◌≡◌, refl, sym, ap, ap₂, subst}
 use mathlib.Core.List.{List, [], ◌∷◌, ◌++◌}
 use Prim.Native.Nat.{ℕ}
 use native.Mathlib.Omega.{arith}
+use Rattle.std.specs.Prelude.{Some}
 use Rattle.block_maker.specs.Making.{values_of}
 use Rattle.block_reader.specs.Judging.{verdict}
 use Rattle.block_reader.specs.Claims.{NoneNear, OnlyNear}
-use Rattle.line_receiver.specs.declared.Judged.TheVariants.{Block}
 use Rattle.line_receiver.specs.Runs.{Event, Sent}
 use Rattle.line_receiver.specs.Page.{passes, Stand, Rule, plain, held, taken, refused, dropped, resumed, again}
 use Rattle.line_receiver.specs.Page.{midway_ask, idle_ask, switched_on, switched_off, Course, done, next}
@@ -24,7 +24,7 @@ one_rule (held h) (taken k c) = absurd (omega (arith, h, k))
 one_rule (held h) (refused k c) = absurd (omega (arith, h, k))
 one_rule (taken h c) (held k) = absurd (omega (arith, h, k))
 one_rule (taken {h = l} {b = b} h c) (taken k d) =
-    (ap (λ (C : List ℕ). passes (values_of C) (Block (verdict (l ++ (b ∷ []))))) (same_block c d), refl)
+    (ap (λ (C : List ℕ). passes (values_of C) (Some (verdict (l ++ (b ∷ []))))) (same_block c d), refl)
 one_rule (taken h c) (refused k d) = absurd (not_both c d)
 one_rule (refused h c) (held k) = absurd (omega (arith, h, k))
 one_rule (refused h c) (taken k d) = absurd (not_both d c)

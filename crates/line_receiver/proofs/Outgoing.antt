@@ -6,13 +6,15 @@ use Prim.Native.Nat.{ℕ, zero, suc, ◌-◌, ◌<◌}
 use native.Mathlib.Omega.{arith}
 use lib.ListN.{length, replicate}
 use lib.Seq.{take_at}
+use Rattle.std.specs.Prelude.{Some, Ok}
+use Rattle.laws.proofs.Computed.{chosen}
 use Rattle.numbers.specs.Numbers.{number_of}
 use Rattle.values.specs.Large.{Values}
 use Rattle.block_validity.proofs.Validity.{valid_length}
 use Rattle.block_maker.specs.Making.{values_of}
 use Rattle.block_maker.proofs.Blocks.{values_length, values_low}
 use Rattle.block_reader.specs.declared.Verdict.{Verdict}
-use Rattle.block_reader.specs.Judging.{verdict, left}
+use Rattle.block_reader.specs.Judging.{verdict}
 use Rattle.block_reader.specs.Claims.{OnlyNear}
 use Rattle.line_codes.specs.Codes.{plainly}
 use Rattle.line_codes.proofs.Removed.{plain_lt}
@@ -20,10 +22,9 @@ use Rattle.line_phases.specs.Phases.{awaits_more}
 use Rattle.line_phases.specs.declared.Phase.{Phase}
 use Rattle.line_phases.specs.declared.Phase.TheVariants.{Off, Collecting, Waiting}
 use Rattle.line_receiver.specs.declared.Receiver.{Receiver}
-use Rattle.line_receiver.specs.declared.Judged.TheVariants.{Block}
 use Rattle.line_receiver.specs.declared.Stepped.{Stepped}
 use Rattle.line_receiver.specs.States.{in_range, InReceiver, emptied, call_conditions}
-use Rattle.line_receiver.specs.Calls.{silent, refused, holding, whole, accepted, repeated, accepts, judged_held}
+use Rattle.line_receiver.specs.Calls.{answer_number, silent, refused, whole, accepted, accepts}
 use Rattle.line_receiver.specs.Calls.{by_phase, again_by}
 use Rattle.line_receiver.specs.Runs.{Event, byte, on, off, ask, obey, Sent, sent_by}
 use Rattle.line_receiver.specs.Page.{nothing, passes}
@@ -32,9 +33,9 @@ use Rattle.line_receiver.proofs.Kept.{on_afresh, off_afresh, again_as}
 
 -- ---- fifteen values
 
-pub sent_accepted : (x : ℕ) (vs : List ℕ) (v : Verdict) → sent_by (accepted x vs v) ≡ passes vs (Block v)
+pub sent_accepted : (x : ℕ) (vs : List ℕ) (v : Verdict) → sent_by (accepted x vs v) ≡ passes vs (Some v)
 sent_accepted x vs v =
-    ap (λ (us : List ℕ). passes us (Block v)) (take_at vs (replicate (15 - length vs) 0) (length vs) refl)
+    ap (λ (us : List ℕ). passes us (Some v)) (take_at vs (replicate (15 - length vs) 0) (length vs) refl)
 
 pub near_fifteen : (B C : List ℕ) → OnlyNear B C → length (values_of C) ≡ 15
 near_fifteen B C o = values_length C (valid_length C o.is_valid)
@@ -58,47 +59,44 @@ refuses e r f = obeys e r ∙ ap (λ (t : Bool). cond t (unbroken e r) (refused 
 
 -- that state, 5, and nothing else
 pub handed_back : (e : Event) (r : Receiver) → in_range r ≡ false
-    → ((obey e r).next ≡ r) × ((obey e r).answer ≡ 5) × (sent_by (obey e r) ≡ nothing)
+    → ((obey e r).next ≡ r) × (answer_number (obey e r).answer ≡ 5) × (sent_by (obey e r) ≡ nothing)
 handed_back e r f =
     let p = refuses e r f in
-    (ap (λ (s : Stepped). s.next) p, ap (λ (s : Stepped). s.answer) p, ap sent_by p)
+    (ap (λ (s : Stepped). s.next) p, ap (λ (s : Stepped). answer_number s.answer) p, ap sent_by p)
 
-either_way : (t : Bool) (s u : Stepped) → s.answer ≡ 0 → u.answer ≡ 0 → (cond t s u).answer ≡ 0
-either_way true s u p q = p
-either_way false s u p q = q
+-- the call is not refused
+abbrev Taken : Stepped → Type 0
+Taken s = s.answer ≡ Ok tt
 
-byte_answer : (p : Phase) (r : Receiver) (b : ℕ) → (by_phase p r b).answer ≡ 0
+byte_answer : (p : Phase) (r : Receiver) (b : ℕ) → Taken (by_phase p r b)
 byte_answer Off r b = refl
 byte_answer Collecting r b =
-    either_way (awaits_more r.count) (silent (holding r b)) (judged_held r b) refl
-    (either_way (accepts (verdict (whole r b)))
-    (accepted r.number (values_of (left (whole r b))) (verdict (whole r b)))
-    (repeated r.number (verdict (whole r b))) refl refl)
+    chosen Taken (awaits_more r.count) (λ h. refl) (λ h. chosen Taken (accepts (verdict (whole r b))) (λ a. refl) (λ a. refl))
 byte_answer (Waiting n) r b = refl
 
-again_answer : (p : Phase) (r : Receiver) → (again_by p r).answer ≡ 0
+again_answer : (p : Phase) (r : Receiver) → Taken (again_by p r)
 again_answer Off r = refl
 again_answer Collecting r = refl
 again_answer (Waiting n) r = refl
 
-unbroken_answer : (e : Event) (r : Receiver) → (unbroken e r).answer ≡ 0
+unbroken_answer : (e : Event) (r : Receiver) → Taken (unbroken e r)
 unbroken_answer (byte b) r = byte_answer r.phase r b
 unbroken_answer on r = refl
 unbroken_answer off r = refl
 unbroken_answer ask r = again_answer r.phase r
 
-pub answers : (e : Event) (r : Receiver) → (obey e r).answer ≡ number_of (call_conditions r)
-answers e r = ap (λ (s : Stepped). s.answer) (obeys e r) ∙ go (in_range r)
+pub answers : (e : Event) (r : Receiver) → answer_number (obey e r).answer ≡ number_of (call_conditions r)
+answers e r = ap (λ (s : Stepped). answer_number s.answer) (obeys e r) ∙ go (in_range r)
   where
-    go : (t : Bool) → (cond t (unbroken e r) (refused r)).answer ≡ cond (not t) 5 0
-    go true = unbroken_answer e r
+    go : (t : Bool) → answer_number (cond t (unbroken e r) (refused r)).answer ≡ cond (not t) 5 0
+    go true = ap answer_number (unbroken_answer e r)
     go false = refl
 
 -- ---- answers, and values
 
 -- the answer is 0, and no value passed on is above 127
 abbrev pub Fits : Stepped → Type 0
-Fits s = (s.answer ≡ 0) × Values (sent_by s).passed
+Fits s = (answer_number s.answer ≡ 0) × Values (sent_by s).passed
 
 none_fit : Values []
 none_fit i h = omega (arith, h)

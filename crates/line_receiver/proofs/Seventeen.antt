@@ -5,13 +5,13 @@ use Prim.Native.Nat.{ℕ, ◌+◌, ◌%◌, ◌≤◌, ◌<◌}
 use native.Mathlib.Omega.{arith}
 use lib.ListN.{length, get_or, take, replicate, length-append}
 use lib.Seq.{take-suc, take_all, length-take-le}
+use Rattle.std.specs.Prelude.{Some}
 use Rattle.block_maker.specs.Making.{values_of}
 use Rattle.block_reader.specs.declared.Verdict.TheVariants.{Repeat}
 use Rattle.block_reader.specs.Judging.{verdict}
 use Rattle.block_reader.specs.Claims.{NoneNear, OnlyNear}
-use Rattle.line_phases.specs.declared.Phase.TheVariants.{Off, Collecting, Waiting}
+use Rattle.line_phases.specs.declared.Phase.TheVariants.{Collecting, Waiting}
 use Rattle.line_receiver.specs.declared.Receiver.{Receiver}
-use Rattle.line_receiver.specs.declared.Judged.TheVariants.{Block}
 use Rattle.line_receiver.specs.declared.Stepped.{Stepped}
 use Rattle.line_receiver.specs.States.{InReceiver, emptied}
 use Rattle.line_receiver.specs.Calls.{accepted, repeated, stepped}
@@ -21,7 +21,7 @@ use Rattle.line_receiver.proofs.Shape as shapes
 use Rattle.line_receiver.proofs.Shape.{Shape, shape, arrived}
 use Rattle.line_receiver.proofs.Kept.{emptied_in, keeps, runs_keep, run_append, sent_append}
 use Rattle.line_receiver.proofs.Outgoing.{sent_accepted}
-use Rattle.line_receiver.proofs.Followed.{other_phase, At, arrived_is, follows_one}
+use Rattle.line_receiver.proofs.Followed.{At, arrived_is, follows_one}
 use Rattle.line_receiver.proofs.Once.{same_block, not_both}
 
 -- ---- bytes before the seventeenth
@@ -51,7 +51,7 @@ gathers (b ∷ vs) h x r k g a =
 module _ (r : Receiver) (b x : ℕ) (h : List ℕ) (a : At r (midway x h)) (k : length h ≡ 16) where
   takes : {c : Stepped} → Shape r b c → (C : List ℕ) → OnlyNear (h ++ (b ∷ [])) C
       → c ≡ accepted x (values_of C) (verdict (h ++ (b ∷ [])))
-  takes (shapes.plain f) C o = other_phase Off Collecting f a.0 refl
+  takes (shapes.plain f) C o = absurd (cc)
   takes (shapes.more f c) C o = absurd (omega (arith, k, c, a.2))
   takes (shapes.took f c D p) C o =
       let e : arrived r b ≡ h ++ (b ∷ []) = arrived_is r b h a.3 c in
@@ -59,15 +59,15 @@ module _ (r : Receiver) (b x : ℕ) (h : List ℕ) (a : At r (midway x h)) (k : 
       ∙ ap (λ (A : List ℕ). accepted x (values_of A) (verdict (h ++ (b ∷ []))))
       (same_block (subst (λ (A : List ℕ). OnlyNear A D) e p) o)
   takes (shapes.none f c n) C o = absurd (not_both o (subst NoneNear (arrived_is r b h a.3 c) n))
-  takes (shapes.listens n f) C o = other_phase (Waiting n) Collecting f a.0 refl
+  takes (shapes.listens n f) C o = absurd (cc)
 
   asks_for : {c : Stepped} → Shape r b c → NoneNear (h ++ (b ∷ [])) → c ≡ repeated x Repeat
-  asks_for (shapes.plain f) n = other_phase Off Collecting f a.0 refl
+  asks_for (shapes.plain f) n = absurd (cc)
   asks_for (shapes.more f c) n = absurd (omega (arith, k, c, a.2))
   asks_for (shapes.took f c D p) n =
       absurd (not_both (subst (λ (A : List ℕ). OnlyNear A D) (arrived_is r b h a.3 c) p) n)
   asks_for (shapes.none f c o) n = ap (λ (m : ℕ). repeated m Repeat) a.1
-  asks_for (shapes.listens m f) n = other_phase (Waiting m) Collecting f a.0 refl
+  asks_for (shapes.listens m f) n = absurd (cc)
 
 -- ---- seventeen
 
@@ -117,7 +117,7 @@ module _ (x : ℕ) (B : List ℕ) (lt : x < 16) (l : length B ≡ 17) where
 
   pub block_passes : (C : List ℕ) → OnlyNear B C
       → (run (emptied x Collecting) (map byte B) ≡ emptied ((x + 1) % 16) Collecting)
-      × (sent (emptied x Collecting) (map byte B) ≡ at_last (passes (values_of C) (Block (verdict B))))
+      × (sent (emptied x Collecting) (map byte B) ≡ at_last (passes (values_of C) (Some (verdict B))))
   unfolding r q
   block_passes C o =
       let i = ended (accepted x (values_of C) (verdict (first ++ (last ∷ []))))
@@ -125,12 +125,12 @@ module _ (x : ℕ) (B : List ℕ) (lt : x < 16) (l : length B ≡ 17) where
       (subst (λ (A : List ℕ). OnlyNear A C) cut o)) in (
         i.0,
         i.1 ∙ ap at_last (sent_accepted x (values_of C) (verdict (first ++ (last ∷ [])))
-            ∙ ap (λ (A : List ℕ). passes (values_of C) (Block (verdict A))) (sym cut)),
+            ∙ ap (λ (A : List ℕ). passes (values_of C) (Some (verdict A))) (sym cut)),
       )
 
   pub block_asked : NoneNear B
       → (run (emptied x Collecting) (map byte B) ≡ emptied x (Waiting 0))
-      × (sent (emptied x Collecting) (map byte B) ≡ at_last (asks x (Block Repeat)))
+      × (sent (emptied x Collecting) (map byte B) ≡ at_last (asks x (Some Repeat)))
   unfolding r q
   block_asked n =
       ended (repeated x Repeat)

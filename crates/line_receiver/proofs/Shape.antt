@@ -2,11 +2,11 @@
 use mathlib.Core.Path.{◌≡◌, refl, sym, ap, ◌∙◌, subst, subst⁻¹}
 use mathlib.Core.Bool.{Bool, true, false, cond}
 use mathlib.Core.List.{List, ◌++◌, ◌∷◌, []}
-use Prim.Native.Nat.{ℕ, ◌+◌, ◌<◌}
-use native.Mathlib.Numerals.{add-one}
+use Prim.Native.Nat.{ℕ, ◌<◌}
 use native.Mathlib.Omega.{arith}
-use lib.ListN.{length, take, set, length-set}
-use lib.Seq.{take-suc-set, take_all}
+use lib.ListN.{length, take, length-set}
+use lib.Seq.{take_all}
+use Rattle.std.proofs.lemmas.List.{take_more_set}
 use Rattle.laws.proofs.Computed.{holds, fails}
 use Rattle.block_maker.specs.Making.{values_of}
 use Rattle.block_reader.specs.declared.Verdict.{Verdict}
@@ -41,13 +41,10 @@ pub data Shape (r : Receiver) (b : ℕ) : Stepped → Type 0 where
 
 -- ---- what is held with one byte more
 
-pub grown : (l : List ℕ) (n b : ℕ) → n < length l → take (n + 1) (set l n b) ≡ take n l ++ (b ∷ [])
-grown l n b h = ap (λ (m : ℕ). take m (set l n b)) (add-one n) ∙ take-suc-set l n b h
-
 pub whole_is : (r : Receiver) (b : ℕ) → length r.held ≡ 17 → whole r b ≡ arrived r b
 whole_is r b e =
     let k : length (whole r b) ≡ 17 = length-set r.held 16 b ∙ e in
-    sym (take_all 17 (whole r b) (omega arith)) ∙ grown r.held 16 b (omega arith)
+    sym (take_all 17 (whole r b) (omega arith)) ∙ take_more_set r.held 16 b (omega arith)
 
 -- ---- the shapes
 

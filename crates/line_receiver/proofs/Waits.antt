@@ -4,13 +4,13 @@ use mathlib.Core.Bool.{true}
 use mathlib.Core.List.{List, [], ◌∷◌, ◌++◌, map, append_assoc, append-nil}
 use Prim.Native.Nat.{ℕ}
 use lib.ListN.{replicate}
+use Rattle.std.specs.Prelude.{None}
 use Rattle.laws.proofs.Computed.{fails, holds}
 use Rattle.line_codes.specs.declared.Listened.{Listened}
 use Rattle.line_codes.specs.Codes.{syn, Ends, Nowhere}
 use Rattle.line_codes.proofs.Seen.{seen_in, seen_syns, ended, never}
-use Rattle.line_phases.specs.declared.Phase.TheVariants.{Off, Collecting, Waiting}
+use Rattle.line_phases.specs.declared.Phase.TheVariants.{Collecting, Waiting}
 use Rattle.line_receiver.specs.declared.Receiver.{Receiver}
-use Rattle.line_receiver.specs.declared.Judged.TheVariants.{Nothing}
 use Rattle.line_receiver.specs.declared.Stepped.{Stepped}
 use Rattle.line_receiver.specs.States.{InReceiver, emptied}
 use Rattle.line_receiver.specs.Calls.{silent, listening, stepped}
@@ -22,16 +22,16 @@ use Rattle.line_receiver.proofs.Ranges.{seen_in_lem}
 use Rattle.line_receiver.proofs.Shape as shapes
 use Rattle.line_receiver.proofs.Shape.{Shape, shape}
 use Rattle.line_receiver.proofs.Kept.{keeps, runs_keep}
-use Rattle.line_receiver.proofs.Followed.{other_phase, At, same_listened, follows_one}
+use Rattle.line_receiver.proofs.Followed.{At, same_listened, follows_one}
 
 -- ---- the byte that ends it
 
 ends_it : (r : Receiver) (b x : ℕ) (ws : List ℕ) → At r (awaiting x ws) → Ends x (ws ++ (b ∷ []))
     → {c : Stepped} → Shape r b c → c ≡ silent (emptied x Collecting)
-ends_it r b x ws a d (shapes.plain f) = other_phase Off (Waiting (seen_in ws)) f a.0 refl
-ends_it r b x ws a d (shapes.more f k) = other_phase Collecting (Waiting (seen_in ws)) f a.0 refl
-ends_it r b x ws a d (shapes.took f k C o) = other_phase Collecting (Waiting (seen_in ws)) f a.0 refl
-ends_it r b x ws a d (shapes.none f k o) = other_phase Collecting (Waiting (seen_in ws)) f a.0 refl
+ends_it r b x ws a d (shapes.plain f) = absurd (cc)
+ends_it r b x ws a d (shapes.more f k) = absurd (cc)
+ends_it r b x ws a d (shapes.took f k C o) = absurd (cc)
+ends_it r b x ws a d (shapes.none f k o) = absurd (cc)
 ends_it r b x ws a d (shapes.listens n f) =
     ap (λ (l : Listened). silent (listening l r)) (same_listened r b x n ws a f ∙ ended x ws b d)
     ∙ ap (λ (m : ℕ). silent (emptied m Collecting)) a.1
@@ -48,7 +48,7 @@ only_dropped n (dropped m) = (refl, refl)
 only_dropped n (resumed d) = absurd (n d)
 
 only_again : {x : ℕ} {ws : List ℕ} {o : Sent} {t : Stand} → Rule (awaiting x ws) ask o t
-    → (o ≡ asks x Nothing) × (t ≡ awaiting x ws)
+    → (o ≡ asks x None) × (t ≡ awaiting x ws)
 only_again again = (refl, refl)
 
 pub waits_on : (ts : List Event) (r : Receiver) (x : ℕ) (ws : List ℕ) → unswitched ts ≡ true → InReceiver r

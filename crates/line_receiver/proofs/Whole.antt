@@ -7,6 +7,7 @@ use native.Mathlib.Nat.{mod-lt, zero-lt-suc}
 use native.Mathlib.Omega.{arith}
 use lib.ListN.{length, get_or, take, drop, length-map}
 use lib.Seq.{length-take-le, take_at, drop_at, split_at, drop-cons}
+use Rattle.std.proofs.lemmas.List.{take-map, drop-map}
 use Rattle.values.specs.Large.{Values}
 use Rattle.block_validity.specs.Changed.{same}
 use Rattle.block_validity.specs.Block.{Valid}
@@ -24,7 +25,7 @@ use Rattle.line_receiver.specs.Line.{blocks_for, fifteens, made_of, filled, join
 use Rattle.line_receiver.specs.Line.{block_then}
 use Rattle.line_receiver.proofs.Kept.{on_afresh}
 use Rattle.line_receiver.proofs.Fifteens.{Cut, values, cut, cut_take, cut_drop, block_valid, fifteens_length}
-use Rattle.line_receiver.proofs.Fifteens.{map_take, map_drop, values_filled, first_values, both_values}
+use Rattle.line_receiver.proofs.Fifteens.{values_filled, first_values, both_values}
 use Rattle.line_receiver.proofs.Heard.{Hears, behind, blocks_heard, refused_heard, noise_heard}
 use Rattle.line_receiver.proofs.Heard.{resumption_heard}
 
@@ -74,9 +75,9 @@ sending_heard {x} uss c h e
     let y : ℕ = (x + j) % 16 in
     let y-in : y < 16 = mod-lt (x + j) (zero-lt-suc 15) in
     let first : Us ≡ map block_of (take j uss) =
-    sym (take_at Us (W ∷ Ws) j refl) ∙ ap (take j) e ∙ map_take block_of j uss in
+    sym (take_at Us (W ∷ Ws) j refl) ∙ ap (take j) e ∙ take-map block_of j uss in
     let others : W ∷ Ws ≡ map block_of (drop j uss) =
-    sym (drop_at Us (W ∷ Ws) j refl) ∙ ap (drop j) e ∙ map_drop block_of j uss in
+    sym (drop_at Us (W ∷ Ws) j refl) ∙ ap (drop j) e ∙ drop-map block_of j uss in
     let many : length (take j uss) ≡ j = sym (length-map (take j uss) block_of) ∙ ap length (sym first) in
     let came : Hears (emptied x Collecting) before (values (take j uss)) [] (emptied y Collecting) =
     subst (λ (m : ℕ). Hears (emptied x Collecting) before (values (take j uss)) [] (emptied ((x + m) % 16) Collecting))
@@ -126,7 +127,7 @@ module _ (vs : List ℕ) (j : ℕ) (hit : List ℕ) (f : Values vs) (jn : j < bl
         subst (λ (n : ℕ). Hears (emptied 0 Collecting) before (values (take j uss)) [] (emptied n Collecting))
         (ap (λ (n : ℕ). (0 + n) % 16) l ∙ omega arith)
         (blocks_heard (take j uss) 0 (cut_take j uss uss_cut) (omega arith)
-        (subst (λ (Ws : List (List ℕ)). Arrives Ws before) (map_take block_of j uss) ab))
+        (subst (λ (Ws : List (List ℕ)). Arrives Ws before) (take-map block_of j uss) ab))
 
     hit_heard :
         Hears (emptied 0 Collecting) (before ++ hit) (values (take j uss) ++ []) (request (j % 16))

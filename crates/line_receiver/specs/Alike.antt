@@ -15,7 +15,5 @@ pub record AlikeSteps (s t : Stepped) : Type 0 where
   pub next : Alike s.next t.next
   pub answer : s.answer ≡ t.answer
   pub values : s.values ≡ t.values
-  pub passed : s.passed ≡ t.passed
   pub request : s.request ≡ t.request
-  pub asked : s.asked ≡ t.asked
   pub judged : s.judged ≡ t.judged

@@ -1,5 +1,6 @@
 -- What each call does to a receiver, and all that goes out (01, "The receiver"). Assumes nothing.
-use Rattle.std.specs.Prelude.{Bool, true, false, cond, List, [], ◌∷◌, ◌++◌, ℕ, ◌+◌, ◌-◌, length, set, replicate}
+use Rattle.std.specs.Prelude.{Bool, true, false, cond, List, [], ◌∷◌, ℕ, ◌+◌, set, Option, Some, None, Result, Ok, Err}
+use Rattle.few.specs.Bytes.{few}
 use Rattle.block_maker.specs.Making.{values_of}
 use Rattle.block_reader.specs.declared.Verdict.{Verdict}
 use Rattle.block_reader.specs.declared.Verdict.TheVariants.{Clean, Mended, Repeat, WrongLength}
@@ -11,45 +12,37 @@ use Rattle.line_codes.specs.Codes.{plainly, next, request, listened}
 use Rattle.line_phases.specs.declared.Phase.{Phase}
 use Rattle.line_phases.specs.declared.Phase.TheVariants.{Off, Collecting, Waiting}
 use Rattle.line_receiver.specs.declared.Receiver.{Receiver}
-use Rattle.line_receiver.specs.declared.Judged.{Judged}
-use Rattle.line_receiver.specs.declared.Judged.TheVariants.{Nothing, Block}
+use Rattle.line_receiver.specs.declared.Broken.{Broken}
 use Rattle.line_receiver.specs.declared.Stepped.{Stepped}
 use Rattle.line_receiver.specs.States.{in_range, emptied}
 
 -- ---- what a call hands back
 
--- values in an array of n: the places past them are 0
-abbrev pub padded : ℕ → List ℕ → List ℕ
-padded n vs = vs ++ replicate (n - length vs) 0
+-- the number of each answer
+abbrev pub answer_number : Result (Unit {0}) Broken → ℕ
+answer_number (Ok u) = 0
+answer_number (Err b) = 5
 
 -- the answer, the next state, the values passed on, the bytes for the modem and what was judged
-abbrev pub giving : ℕ → Receiver → List ℕ → List ℕ → Judged → Stepped
+abbrev pub giving : Result (Unit {0}) Broken → Receiver → List ℕ → List ℕ → Option Verdict → Stepped
 giving answer next vs qs j =
-    record {
-      next = next;
-      answer = answer;
-      values = padded 15 vs;
-      passed = length vs;
-      request = padded 2 qs;
-      asked = length qs;
-      judged = j;
-    }
+    record { next = next; answer = answer; values = few 15 vs; request = few 2 qs; judged = j }
 
 -- nothing goes out
 abbrev pub silent : Receiver → Stepped
-silent r = giving 0 r [] [] Nothing
+silent r = giving (Ok tt) r [] [] None
 
 -- "broken state .. that state handed back"
 abbrev pub refused : Receiver → Stepped
-refused r = giving 5 r [] [] Nothing
+refused r = giving (Err (record {})) r [] [] None
 
 -- off: one value passes
 abbrev pub passing : Receiver → ℕ → Stepped
-passing r v = giving 0 r (v ∷ []) [] Nothing
+passing r v = giving (Ok tt) r (v ∷ []) [] None
 
 -- the request for the block awaited goes to the modem
 abbrev pub asking : Receiver → Stepped
-asking r = giving 0 r [] (request r.number) Nothing
+asking r = giving (Ok tt) r [] (request r.number) None
 
 -- ---- collecting
 
@@ -65,12 +58,12 @@ whole r b = set r.held 16 b
 -- "Clean or mended: its fifteen values are passed on without parity, the number rises by one (15 becomes 0) and
 -- nothing is held"
 abbrev pub accepted : ℕ → List ℕ → Verdict → Stepped
-accepted x vs v = giving 0 (emptied (next x) Collecting) vs [] (Block v)
+accepted x vs v = giving (Ok tt) (emptied (next x) Collecting) vs [] (Some v)
 
 -- "Repeat: nothing is passed on; the request .. goes to the modem .., X being the unchanged number; phase waiting,
 -- nothing held or seen"
 abbrev pub repeated : ℕ → Verdict → Stepped
-repeated x v = giving 0 (emptied x (Waiting 0)) [] (request x) (Block v)
+repeated x v = giving (Ok tt) (emptied x (Waiting 0)) [] (request x) (Some v)
 
 -- "clean or mended" (a held block has seventeen bytes, so its length is never wrong)
 abbrev pub accepts : Verdict → Bool

@@ -1,7 +1,8 @@
 -- A whole run: what happens to a receiver, call by call, and what goes out. Assumes nothing.
-use Rattle.std.specs.Prelude.{Bool, true, false, cond, List, [], ◌∷◌, ◌++◌, ℕ, ◌+◌, eqb, length, take}
+use Rattle.std.specs.Prelude.{Bool, true, false, cond, List, [], ◌∷◌, ◌++◌, ℕ, ◌+◌, eqb, length, Option}
+use Rattle.few.specs.Bytes.{contents}
+use Rattle.block_reader.specs.declared.Verdict.{Verdict}
 use Rattle.line_receiver.specs.declared.Receiver.{Receiver}
-use Rattle.line_receiver.specs.declared.Judged.{Judged}
 use Rattle.line_receiver.specs.declared.Stepped.{Stepped}
 use Rattle.line_receiver.specs.Calls.{stepped, switched_on, switched_off, asked_again}
 
@@ -30,11 +31,11 @@ run r (e ∷ es) = run (obey e r).next es
 pub record Sent : Type 0 where
   pub passed : List ℕ
   pub asked : List ℕ
-  pub judged : Judged
+  pub judged : Option Verdict
 
 abbrev pub sent_by : Stepped → Sent
 sent_by s =
-    record { passed = take s.passed s.values; asked = take s.asked s.request; judged = s.judged }
+    record { passed = contents s.values; asked = contents s.request; judged = s.judged }
 
 -- at each call of a run
 abbrev pub sent : Receiver → List Event → List Sent

@@ -1,10 +1,9 @@
 -- A receiver, and where the line stands by the rules of specs/Page. Assumes nothing.
-use Rattle.std.specs.Prelude.{ℕ, ◌≡◌, length, take, replicate}
+use Rattle.std.specs.Prelude.{ℕ, ◌≡◌, length, take, replicate, None}
 use Rattle.line_codes.specs.Codes.{syn}
 use Rattle.line_phases.specs.declared.Phase.{Phase}
 use Rattle.line_phases.specs.declared.Phase.TheVariants.{Off, Collecting, Waiting}
 use Rattle.line_receiver.specs.declared.Receiver.{Receiver}
-use Rattle.line_receiver.specs.declared.Judged.TheVariants.{Nothing}
 use Rattle.line_receiver.specs.Runs.{Sent}
 use Rattle.line_receiver.specs.Page.{nothing, asks, Stand, idle, midway, awaiting}
 
@@ -31,4 +30,4 @@ Stands r (awaiting x ws) = IsWaiting r × (r.number ≡ x)
 abbrev pub asked_in : Phase → ℕ → Sent
 asked_in Off x = nothing
 asked_in Collecting x = nothing
-asked_in (Waiting n) x = asks x Nothing
+asked_in (Waiting n) x = asks x None

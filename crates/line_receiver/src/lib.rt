@@ -20,8 +20,10 @@ mod states;
 mod while_on;
 
 use block_reader::Verdict;
+use few::Few;
 pub use line_phases::Phase;
-use outcomes::{pass, refuse, silent};
+pub use outcomes::silent;
+use outcomes::{pass, refuse};
 use requests::again;
 use states::emptied;
 pub use states::in_range;
@@ -29,7 +31,9 @@ use while_on::{collect, hear};
 
 #[derive(Clone, Copy)]
 pub struct Receiver {
-    // The first `count` are the bytes held; the others are no part of the state.
+    // The first `count` are the bytes held; the others are no part of the state. Not a `Few<17>`: 01 has the array, the
+    // count and the number as the state's form, and `places_past_the_held_never_matter` speaks of any bytes past those
+    // held, where a `Few` has 0.
     pub held: [u8; 17],
     pub count: usize,
     // That of the block awaited, 0 to 15.
@@ -37,26 +41,22 @@ pub struct Receiver {
     pub phase: Phase,
 }
 
-// What a call judged.
-#[derive(Clone, Copy)]
-pub enum Judged {
-    Nothing,
-    Block(Verdict),
-}
+// Why a call does nothing: the state lies outside its ranges. The answer's number is 5.
+#[derive(Clone, Copy, PartialEq, Eq)]
+pub struct Broken;
 
-// What a call hands back. The places past a count are 0.
+// What a call hands back.
 #[derive(Clone, Copy)]
 pub struct Stepped {
     pub next: Receiver,
-    // 0, or 5 for a broken state, which is handed back.
-    pub answer: u8,
-    // The first `passed` are the values passed on: none, one or fifteen.
-    pub values: [u8; 15],
-    pub passed: usize,
-    // The first `asked` are the bytes for the modem: none or two.
-    pub request: [u8; 2],
-    pub asked: usize,
-    pub judged: Judged,
+    // Broken where the state is; it comes back as it was.
+    pub answer: Result<(), Broken>,
+    // The values passed on: none, one or fifteen.
+    pub values: Few<15>,
+    // The bytes for the modem: none or two.
+    pub request: Few<2>,
+    // The verdict on a block, where one was judged.
+    pub judged: Option<Verdict>,
 }
 
 impl Receiver {
@@ -71,18 +71,15 @@ impl Receiver {
     pub fn step(self, byte: u8) -> Stepped
         ensures { result ≡ stepped self byte }
     {
-        if in_range(self) {
-            let phase = self.phase;
-            match phase {
-                Phase::Off => pass(self, byte),
-                Phase::Collecting => collect(self, byte),
-                Phase::Waiting(seen) => silent(
-                    hear(self, line_codes::listen(self.number, seen, byte)),
-                    0,
-                ),
+        if !in_range(self) {
+            return refuse(self);
+        }
+        match self.phase {
+            Phase::Off => pass(self, byte),
+            Phase::Collecting => collect(self, byte),
+            Phase::Waiting(seen) => {
+                silent(hear(self, line_codes::listen(self.number, seen, byte)))
             }
-        } else {
-            refuse(self)
         }
     }
 
@@ -90,17 +87,10 @@ impl Receiver {
     fn switched(self, phase: Phase) -> Stepped
         ensures { result ≡ switched_to phase self }
     {
-        if in_range(self) {
-            let next = Receiver {
-                held: [0; 17],
-                count: 0,
-                number: 0,
-                phase: phase,
-            };
-            silent(next, 0)
-        } else {
-            refuse(self)
+        if !in_range(self) {
+            return refuse(self);
         }
+        silent(emptied(0, phase))
     }
 
     // Collecting, number 0, nothing held or seen; also when already on.
@@ -121,15 +111,12 @@ impl Receiver {
     pub fn ask_again(self) -> Stepped
         ensures { result ≡ asked_again self }
     {
-        if in_range(self) {
-            let phase = self.phase;
-            match phase {
-                Phase::Off => silent(self, 0),
-                Phase::Collecting => silent(self, 0),
-                Phase::Waiting(_) => again(self),
-            }
-        } else {
-            refuse(self)
+        if !in_range(self) {
+            return refuse(self);
+        }
+        match self.phase {
+            Phase::Off | Phase::Collecting => silent(self),
+            Phase::Waiting(_) => again(self),
         }
     }
 }

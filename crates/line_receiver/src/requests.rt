@@ -1,22 +1,20 @@
 // The request for the block awaited, when it is refused and when the host asks again.
-ghost use Rattle.std.specs.Prelude.{◌≡◌, []};
+ghost use Rattle.std.specs.Prelude.{◌≡◌, Ok, []};
 ghost use Rattle.line_codes.specs.Codes.{request as request_for};
 ghost use Rattle.line_receiver.specs.Calls.{giving, asking};
 
-use crate::{Judged, Receiver, Stepped};
+use crate::outcomes::silent;
+use crate::{Receiver, Stepped};
+use block_reader::Verdict;
+use few::Few;
 
-pub(crate) fn ask(next: Receiver, judged: Judged) -> Stepped
-    ensures { result ≡ giving 0 next [] (request_for next.number) judged }
+pub(crate) fn ask(next: Receiver, judged: Option<Verdict>) -> Stepped
+    ensures { result ≡ giving (Ok tt) next [] (request_for next.number) judged }
 {
-    let request = line_codes::request(next.number);
     Stepped {
-        next: next,
-        answer: 0,
-        values: [0; 15],
-        passed: 0,
-        request: request,
-        asked: 2,
-        judged: judged,
+        request: Few::of(&line_codes::request(next.number)),
+        judged,
+        ..silent(next)
     }
 }
 
@@ -24,5 +22,5 @@ pub(crate) fn ask(next: Receiver, judged: Judged) -> Stepped
 pub(crate) fn again(waiting: Receiver) -> Stepped
     ensures { result ≡ asking waiting }
 {
-    ask(waiting, Judged::Nothing)
+    ask(waiting, None)
 }

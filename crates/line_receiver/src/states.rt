@@ -7,8 +7,7 @@ use crate::{Phase, Receiver};
 pub fn in_range(r: Receiver) -> bool
     ensures { result ≡ in_range r }
 {
-    let phase = r.phase;
-    line_phases::in_range(r.number, r.count, phase)
+    line_phases::in_range(r.number, r.count, r.phase)
 }
 
 pub(crate) fn emptied(number: u8, phase: Phase) -> Receiver
@@ -17,7 +16,7 @@ pub(crate) fn emptied(number: u8, phase: Phase) -> Receiver
     Receiver {
         held: [0; 17],
         count: 0,
-        number: number,
-        phase: phase,
+        number,
+        phase,
     }
 }

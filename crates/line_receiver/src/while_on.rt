@@ -5,20 +5,16 @@ ghost use Rattle.line_receiver.specs.Calls.{accepts as accepts_as, judged_held, 
 use crate::outcomes::silent;
 use crate::requests::ask;
 use crate::states::emptied;
-use crate::{Judged, Phase, Receiver, Stepped};
+use crate::{Phase, Receiver, Stepped};
 use block_reader::Verdict;
+use few::Few;
 use line_codes::Listened;
 
 // Whether a block is accepted: clean or mended.
 fn accepts(verdict: Verdict) -> bool
     ensures { result ≡ accepts_as verdict }
 {
-    match verdict {
-        Verdict::Clean => true,
-        Verdict::Mended(_) => true,
-        Verdict::Repeat => false,
-        Verdict::WrongLength => false,
-    }
+    matches!(verdict, Verdict::Clean | Verdict::Mended(_))
 }
 
 // The seventeenth byte: the block is judged where it lies in a copy of what is held. Accepted, its values pass, and the
@@ -31,44 +27,39 @@ fn judge_held(r: Receiver, byte: u8) -> Stepped
     let verdict = block_reader::mend(&mut arrived[..]);
     let after = line_codes::next_number(r.number);
     if accepts(verdict) {
-        return Stepped {
-            next: emptied(after, Phase::Collecting),
-            answer: 0,
-            values: block_maker::values(arrived),
-            passed: 15,
-            request: [0; 2],
-            asked: 0,
-            judged: Judged::Block(verdict),
-        };
+        let values = block_maker::values(arrived);
+        Stepped {
+            values: Few::of(&values),
+            judged: Some(verdict),
+            ..silent(emptied(after, Phase::Collecting))
+        }
+    } else {
+        ask(emptied(r.number, Phase::Waiting(0)), Some(verdict))
     }
-    ask(emptied(r.number, Phase::Waiting(0)), Judged::Block(verdict))
 }
 
 // Collecting: the byte is held, or it is the seventeenth.
 pub(crate) fn collect(r: Receiver, byte: u8) -> Stepped
     ensures { result ≡ collecting r byte }
 {
-    let count = r.count;
-    if line_phases::awaits_more(count) {
+    if line_phases::awaits_more(r.count) {
         let mut next = r;
-        next.held[count] = byte;
-        next.count = count + 1;
-        return silent(next, 0);
+        next.held[r.count] = byte;
+        next.count += 1;
+        silent(next)
+    } else {
+        judge_held(r, byte)
     }
-    judge_held(r, byte)
 }
 
 // Waiting: what listening to the byte made of it.
 pub(crate) fn hear(r: Receiver, heard: Listened) -> Receiver
     ensures { result ≡ listening heard r }
 {
-    let held = r.held;
     match heard {
         Listened::Seen(n) => Receiver {
-            held: held,
-            count: r.count,
-            number: r.number,
             phase: Phase::Waiting(n),
+            ..r
         },
         Listened::Resumed => emptied(r.number, Phase::Collecting),
     }

@@ -1,23 +1,15 @@
--- The array of the blocks kept: what the loops over it leave. Assumes nothing.
+-- The array of the blocks kept: one block more in it. Assumes nothing.
 use mathlib.Core.Path.{◌≡◌, sym, ap, ap₂, ◌∙◌}
 use mathlib.Core.Bool.{Bool, cond}
-use mathlib.Core.List.{List, [], ◌∷◌, ◌++◌, append-nil}
-use Prim.Native.Nat.{ℕ, zero, suc, ◌+◌, ◌-◌, ◌*◌, ◌≤◌}
+use mathlib.Core.List.{List, [], ◌++◌, append-nil}
+use Prim.Native.Nat.{ℕ, ◌*◌}
 use native.Mathlib.Omega.{arith}
-use lib.ListN.{length, get_or, take, drop, length-append, length-drop, drop_of_length-le}
-use lib.Seq.{get_or-drop, take_all, take_at, paste}
+use lib.ListN.{length, take, drop, length-append, length-drop, drop_of_length-le}
+use lib.Seq.{take_all, take_at, paste}
 use borrow.Author.Tests.{le-ltb}
 use Rattle.line_codes.specs.Codes.{next}
 use Rattle.line_sender.specs.declared.Sender.{Sender}
 use Rattle.line_sender.specs.States.{added, moved_up, keeping}
-
-pub at_past : (a b c : ℕ) (l : List ℕ) (f i : ℕ) → 3 ≤ i → get_or l (f + (i - 3)) 0 ≡ get_or (a ∷ b ∷ c ∷ drop f l) i 0
-at_past a b c l f zero h = absurd (omega (arith, h))
-at_past a b c l f (suc zero) h = absurd (omega (arith, h))
-at_past a b c l f (suc (suc zero)) h = absurd (omega (arith, h))
-at_past a b c l f (suc (suc (suc i))) h =
-    let e : suc (suc (suc i)) - 3 ≡ i = omega arith in
-    ap (λ (n : ℕ). get_or l (f + n) 0) e ∙ sym (get_or-drop f l i 0)
 
 -- sixteen kept: the oldest gone and one behind
 moved : (B w : List ℕ) → length B ≡ 272

@@ -11,6 +11,7 @@ use lib.Dec.{T, eqb}
 use lib.ListN.{length, take, drop}
 use lib.Seq.{take_at, drop-drop}
 use borrow.Author.Tests.{eqb-true, lt-ltb}
+use Rattle.std.specs.Prelude.{Ok}
 use Rattle.laws.proofs.Computed.{apart, is_true, below, at}
 use Rattle.block_division.specs.Division.{low_bits}
 use Rattle.block_parity.specs.Parity.{ones, with_parity}
@@ -19,7 +20,7 @@ use Rattle.line_receiver.specs.Line.{joined}
 use Rattle.line_sender.specs.declared.Sender.{Sender}
 use Rattle.line_sender.specs.declared.Resent.{Resent}
 use Rattle.line_sender.specs.declared.Reply.TheVariants.{Again, NotKept}
-use Rattle.line_sender.specs.Calls.{wanted, before, is_kept, from_on, reply_to, resent_by, resent_left}
+use Rattle.line_sender.specs.Calls.{wanted, before, is_kept, from_on, reply_to, written, resent_by, resent_left}
 use Rattle.line_sender.specs.Runs.{last_sixteen, answer_to}
 use Rattle.line_sender.proofs.Answers.{gives, is_kept_lem, not_kept}
 use Rattle.line_sender.proofs.Kept.{Keeps, keeps_in, seventeens_drop, joined_drop, joined_length}
@@ -113,7 +114,7 @@ module _ (s : Sender) (Ws : List (List ℕ)) (k : Keeps s Ws) (m : ℕ) (h : m <
   abbrev answer : List ℕ
   answer = syn ∷ syn ∷ four (m % 16) ∷ joined (drop m Ws)
 
-  found : reply_to s (request (m % 16)) ≡ Again
+  found : reply_to s (request (m % 16)) ≡ Again (length (from_on s (wanted (request (m % 16)))))
   found =
       is_kept_lem s (request (m % 16)) [] refl (again_four (m % 16))
       (subst⁻¹ (λ (b : ℕ). b < s.kept) before_is (omega (arith, h, l, k.many)))
@@ -121,19 +122,20 @@ module _ (s : Sender) (Ws : List (List ℕ)) (k : Keeps s Ws) (m : ℕ) (h : m <
   -- the answer, whole
   pub answered : (O : List ℕ) → length answer ≤ length O
       → (resent_by s (request (m % 16)) O
-      ≡ record { sender = s; answer = 0; reply = Again; written = length answer })
+      ≡ record { sender = s; reply = Ok (Again (length answer)) })
       × (resent_left s (request (m % 16)) O ≡ answer ++ drop (length answer) O)
   answered O r =
-      let g = gives s (request (m % 16)) O refl (keeps_in s Ws k) Again found
+      let g = gives s (request (m % 16)) O refl (keeps_in s Ws k)
+      (Again (length (from_on s (wanted (request (m % 16)))))) found
       (subst⁻¹ (λ (bs : List ℕ). length bs ≤ length O) from_it r) in (
-        sym g.0 ∙ ap (λ (bs : List ℕ). record { sender = s; answer = 0; reply = Again; written = length bs }) from_it,
+        sym g.0 ∙ ap (λ (bs : List ℕ). record { sender = s; reply = Ok (Again (length bs)) }) from_it,
         sym g.1 ∙ ap (λ (bs : List ℕ). bs ++ drop (length bs) O) from_it,
       )
 
   pub answer_is : (O : List ℕ) → length answer ≤ length O → answer_to s (request (m % 16)) O ≡ answer
   answer_is O r =
       let g = answered O r in
-      ap₂ (λ (c : Resent) (bs : List ℕ). take c.written bs) g.0 g.1
+      ap₂ (λ (c : Resent) (bs : List ℕ). take (written c.reply) bs) g.0 g.1
       ∙ take_at answer (drop (length answer) O) (length answer) refl
 
   -- 3 bytes and 17 for each block: sixteen at most
@@ -152,7 +154,7 @@ module _ (s : Sender) (Ws : List (List ℕ)) (k : Keeps s Ws) (x : ℕ) (h : len
       subst⁻¹ (λ (c : ℕ). a ≤ c % 16) z (omega (arith, za, h, l))
 
   pub none_kept : (O : List ℕ)
-      → (resent_by s (request x) O ≡ record { sender = s; answer = 0; reply = NotKept; written = 0 })
+      → (resent_by s (request x) O ≡ record { sender = s; reply = Ok NotKept })
       × (resent_left s (request x) O ≡ O)
   none_kept O =
       let e : reply_to s (request x) ≡ NotKept =

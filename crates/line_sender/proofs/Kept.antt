@@ -1,7 +1,7 @@
 -- After any calls from a new sender the blocks kept are the last sixteen made, in order, and the next number is how
 -- many were made, modulo 16. Assumes nothing.
 use mathlib.Core.Path.{◌≡◌, refl, sym, ap, ap₂, ◌∙◌, subst, subst⁻¹}
-use mathlib.Core.Bool.{Bool, true, false, cond, ◌&&◌}
+use mathlib.Core.Bool.{Bool, true, cond, ◌&&◌}
 use mathlib.Core.List.{List, [], ◌∷◌, ◌++◌, map, append_assoc, append-nil}
 use mathlib.Core.Logic.{⊎_elim}
 use Prim.Native.Nat.{ℕ, zero, suc, ◌+◌, ◌-◌, ◌*◌, ◌%◌, ◌≤◌, ◌<◌}
@@ -11,8 +11,9 @@ use lib.Dec.{eqb}
 use lib.ListN.{length, drop, length-append, length-drop}
 use lib.Seq.{take_all, take_at, drop-nil, drop-append-le, drop-append-add, drop-drop, length-take-le}
 use borrow.Author.Tests.{lt-ltb, le-ltb, eqb-true}
-use Rattle.laws.proofs.Computed.{apart}
-use Rattle.values.specs.Large.{Values, first_large}
+use Rattle.std.specs.Prelude.{is_ok}
+use Rattle.laws.proofs.Computed.{apart, chosen}
+use Rattle.values.specs.Large.{Values}
 use Rattle.values.proofs.Found.{none_large}
 use Rattle.block_validity.proofs.Validity.{valid_length}
 use Rattle.block_maker.specs.Making.{block_of}
@@ -22,10 +23,8 @@ use Rattle.line_codes.specs.Codes.{next, nack}
 use Rattle.line_receiver.specs.Line.{joined}
 use Rattle.line_sender.specs.declared.Sender.{Sender}
 use Rattle.line_sender.specs.declared.Sent.{Sent}
-use Rattle.line_sender.specs.declared.Resent.{Resent}
-use Rattle.line_sender.specs.declared.Reply.TheVariants.{Refused}
 use Rattle.line_sender.specs.States.{in_range, new_sender, stored, added, moved_up, keeping}
-use Rattle.line_sender.specs.Calls.{send_number, sent_as, sent_by, resend_number, resent_by, reply_to, bytes_to}
+use Rattle.line_sender.specs.Calls.{send_number, sent_as, sent_by, resent_by}
 use Rattle.line_sender.specs.Runs.{Call, send, resend, hear, obey, after, made_by, made, last_sixteen}
 use Rattle.line_sender.specs.Hearing.{holding, heard_by}
 use Rattle.line_sender.proofs.Answers.{many, as_made}
@@ -170,28 +169,11 @@ module _ (s : Sender) (vs O : List ℕ) where
       (λ (h : length vs ≤ 15). h) (apart 15 (length vs))
 
   keeps_sent : (Ws : List (List ℕ)) (n : ℕ) → send_number s vs O ≡ n → Keeps s Ws
-      → Keeps (sent_as n s vs).sender (Ws ++ cond (eqb (sent_as n s vs).answer 0) (block_of vs ∷ []) [])
-  keeps_sent Ws n e k = go (eqb n 0) refl
-    where
-      is : Bool → Sent
-      is t =
-          cond t (record { sender = keeping s (block_of vs); answer = 0; place = 0 })
-          (record { sender = s; answer = n; place = cond (eqb n 2) (first_large vs) 0 })
-
-      go : (t : Bool) → eqb n 0 ≡ t → Keeps (is t).sender (Ws ++ cond (eqb (is t).answer 0) (block_of vs ∷ []) [])
-      go true z = keeps_more s Ws (block_of vs) k (block_long vs (few (e ∙ eqb-true n 0 z)))
-      go false z =
-          subst⁻¹ (Keeps s) (ap (λ (t : Bool). Ws ++ cond t (block_of vs ∷ []) []) z ∙ append-nil Ws) k
-
--- "A repeated request changes no stored block and no next number"
-resent_same : (t : Bool) (n : ℕ) (s : Sender) (qs : List ℕ)
-    → (cond {A = Resent} t (record { sender = s; answer = 0; reply = reply_to s qs; written = length (bytes_to s qs) })
-    (record { sender = s; answer = n; reply = Refused; written = 0 })).sender ≡ s
-resent_same true n s qs = refl
-resent_same false n s qs = refl
-
-pub resend_same : (s : Sender) (qs O : List ℕ) → (resent_by s qs O).sender ≡ s
-resend_same s qs O = resent_same (eqb (resend_number s qs O) 0) (resend_number s qs O) s qs
+      → Keeps (sent_as n s vs).sender (Ws ++ cond (is_ok (sent_as n s vs).answer) (block_of vs ∷ []) [])
+  keeps_sent Ws n e k =
+      chosen (λ (t : Sent). Keeps t.sender (Ws ++ cond (is_ok t.answer) (block_of vs ∷ []) [])) (eqb n 0)
+      (λ z. keeps_more s Ws (block_of vs) k (block_long vs (few (e ∙ eqb-true n 0 z))))
+      (λ z. subst⁻¹ (Keeps s) (append-nil Ws) k)
 
 -- a byte heard changes nothing of what is kept
 keeps_held : (s : Sender) (Ws : List (List ℕ)) (t : Bool) → Keeps s Ws → Keeps (holding s t) Ws
@@ -207,7 +189,7 @@ keeps_call : (c : Call) (s : Sender) (Ws : List (List ℕ)) → Keeps s Ws → K
 keeps_call (send vs O) s Ws k = keeps_sent s vs O Ws (send_number s vs O) refl k
 keeps_call (resend qs O) s Ws k =
     subst⁻¹ (λ (Us : List (List ℕ)). Keeps (resent_by s qs O).sender Us) (append-nil Ws)
-    (subst⁻¹ (λ (t : Sender). Keeps t Ws) (resend_same s qs O) k)
+    k
 keeps_call (hear b) s Ws k =
     subst⁻¹ (Keeps (heard_by s b).sender) (append-nil Ws) (keeps_heard s Ws b k)
 

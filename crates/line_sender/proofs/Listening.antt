@@ -7,6 +7,7 @@ use native.Mathlib.Omega.{arith}
 use lib.Dec.{eqb}
 use lib.ListN.{length}
 use borrow.Author.Tests.{eqb-true}
+use Rattle.std.specs.Prelude.{Ok, Err}
 use Rattle.block_parity.specs.Parity.{ones, even, with_parity}
 use Rattle.block_division.specs.Division.{low_bits}
 use Rattle.line_codes.specs.Codes.{plainly, nack, four}
@@ -28,13 +29,13 @@ nack_no_four = refl
 heard_so : (s : Sender) (b : ℕ) → in_range s ≡ true
     → heard_by s b ≡ cond s.nack (heard_behind s b) (heard_alone s [] b)
 heard_so s b g =
-    ap (λ (t : Bool). cond t (cond s.nack (heard_behind s b) (heard_alone s [] b)) (giving 5 s [] [])) g
+    ap (λ (t : Bool). cond t (cond s.nack (heard_behind s b) (heard_alone s [] b)) (giving (Err (record {})) s [] [])) g
 
 alone_held : (s : Sender) (vs : List ℕ) (b : ℕ) → (heard_alone s vs b).sender ≡ holding s (eqb b nack)
 alone_held s vs b = go (eqb b nack)
   where
-    go : (t : Bool) → (cond {A = Heard} t (giving 0 (holding s true) vs [])
-        (giving 0 (holding s false) (vs ++ (plainly b ∷ [])) [])).sender ≡ holding s t
+    go : (t : Bool) → (cond {A = Heard} t (giving (Ok tt) (holding s true) vs [])
+        (giving (Ok tt) (holding s false) (vs ++ (plainly b ∷ [])) [])).sender ≡ holding s t
     go true = refl
     go false = refl
 
@@ -47,7 +48,7 @@ behind_held s b = go (well_formed (nack ∷ b ∷ [])) refl
     other false e w = refl
 
     go : (t : Bool) → well_formed (nack ∷ b ∷ []) ≡ t
-        → (cond {A = Heard} t (giving 0 (holding s false) [] (nack ∷ b ∷ [])) (heard_alone s (21 ∷ []) b)).sender
+        → (cond {A = Heard} t (giving (Ok tt) (holding s false) [] (nack ∷ b ∷ [])) (heard_alone s (21 ∷ []) b)).sender
         ≡ holding s (eqb b nack)
     go true w = ap (holding s) (other (eqb b nack) refl w)
     go false w = alone_held s (21 ∷ []) b
@@ -73,8 +74,8 @@ hearing_held (b ∷ bs) a s g =
 asked_alone : (s : Sender) (vs : List ℕ) (b : ℕ) → asked_in (heard_alone s vs b) ≡ []
 asked_alone s vs b = go (eqb b nack)
   where
-    go : (t : Bool) → asked_in (cond t (giving 0 (holding s true) vs [])
-        (giving 0 (holding s false) (vs ++ (plainly b ∷ [])) [])) ≡ []
+    go : (t : Bool) → asked_in (cond t (giving (Ok tt) (holding s true) vs [])
+        (giving (Ok tt) (holding s false) (vs ++ (plainly b ∷ [])) [])) ≡ []
     go true = refl
     go false = refl
 
@@ -89,7 +90,7 @@ asked_behind : (s : Sender) (b : ℕ)
 asked_behind s b = go (well_formed (nack ∷ b ∷ []))
   where
     go : (t : Bool)
-        → asked_in (cond t (giving 0 (holding s false) [] (nack ∷ b ∷ [])) (heard_alone s (21 ∷ []) b))
+        → asked_in (cond t (giving (Ok tt) (holding s false) [] (nack ∷ b ∷ [])) (heard_alone s (21 ∷ []) b))
         ≡ cond t (nack ∷ b ∷ []) []
     go true = refl
     go false = asked_alone s (21 ∷ []) b
@@ -121,19 +122,19 @@ gone h = passed_in h ++ map plainly (asked_in h) ++ held_back h.sender
 gone_alone : (s : Sender) (vs : List ℕ) (b : ℕ) → length vs ≤ 1 → vs ++ (plainly b ∷ []) ≡ gone (heard_alone s vs b)
 gone_alone s vs b few = go (eqb b nack) refl
   where
-    nacks : (us : List ℕ) → length us ≤ 1 → us ++ (plainly nack ∷ []) ≡ gone (giving 0 (holding s true) us [])
+    nacks : (us : List ℕ) → length us ≤ 1 → us ++ (plainly nack ∷ []) ≡ gone (giving (Ok tt) (holding s true) us [])
     nacks [] h = refl
     nacks (u ∷ []) h = refl
     nacks (u ∷ w ∷ us) h = absurd (omega (arith, h))
 
     others : (us : List ℕ) → length us ≤ 1
-        → us ++ (plainly b ∷ []) ≡ gone (giving 0 (holding s false) (us ++ (plainly b ∷ [])) [])
+        → us ++ (plainly b ∷ []) ≡ gone (giving (Ok tt) (holding s false) (us ++ (plainly b ∷ [])) [])
     others [] h = refl
     others (u ∷ []) h = refl
     others (u ∷ w ∷ us) h = absurd (omega (arith, h))
 
     go : (t : Bool) → eqb b nack ≡ t → vs ++ (plainly b ∷ [])
-        ≡ gone (cond t (giving 0 (holding s true) vs []) (giving 0 (holding s false) (vs ++ (plainly b ∷ [])) []))
+        ≡ gone (cond t (giving (Ok tt) (holding s true) vs []) (giving (Ok tt) (holding s false) (vs ++ (plainly b ∷ [])) []))
     go true e = ap (λ (c : ℕ). vs ++ (plainly c ∷ [])) (eqb-true b nack e) ∙ nacks vs few
     go false e = others vs few
 
@@ -141,7 +142,7 @@ gone_behind : (s : Sender) (b : ℕ) → plainly nack ∷ plainly b ∷ [] ≡ g
 gone_behind s b = go (well_formed (nack ∷ b ∷ []))
   where
     go : (t : Bool) → plainly nack ∷ plainly b ∷ []
-        ≡ gone (cond t (giving 0 (holding s false) [] (nack ∷ b ∷ [])) (heard_alone s (21 ∷ []) b))
+        ≡ gone (cond t (giving (Ok tt) (holding s false) [] (nack ∷ b ∷ [])) (heard_alone s (21 ∷ []) b))
     go true = refl
     go false = ap (λ (v : ℕ). v ∷ plainly b ∷ []) nack_plain ∙ gone_alone s (21 ∷ []) b (omega arith)
 

@@ -1,15 +1,43 @@
 -- What each call of the sender does to it, tells and writes (02, request 8; 01, "Numbers given"). Assumes nothing.
-use Rattle.std.specs.Prelude.{Bool, false, cond, ◌&&◌, ◌||◌, not, List, [], ◌∷◌, ◌++◌, ℕ, ◌+◌, ◌-◌, ◌*◌, ◌%◌, eqb, ltb, length, get_or, drop}
-use Rattle.numbers.specs.Numbers.{Conditions, number_of}
+use Rattle.std.specs.Prelude.{Bool, false, cond, ◌&&◌, ◌||◌, not, List, [], ◌∷◌, ◌++◌, ℕ, ◌+◌, ◌-◌, ◌*◌, ◌%◌, eqb, ltb, length, get_or, drop, Result, Ok, Err}
+use Rattle.numbers.specs.Numbers.{Conditions, number_of, Told}
 use Rattle.values.specs.Large.{first_large}
+use Rattle.block_maker.specs.declared.Unmade.{Unmade}
 use Rattle.block_maker.specs.Making.{block_of}
 use Rattle.line_codes.specs.Codes.{syn, nack, four}
 use Rattle.line_sender.specs.declared.Sender.{Sender}
 use Rattle.line_sender.specs.declared.Sent.{Sent}
 use Rattle.line_sender.specs.declared.Resent.{Resent}
 use Rattle.line_sender.specs.declared.Reply.{Reply}
-use Rattle.line_sender.specs.declared.Reply.TheVariants.{Again, NotKept, NoRequest, Refused}
+use Rattle.line_sender.specs.declared.Reply.TheVariants.{Again, NotKept, NoRequest}
+use Rattle.line_sender.specs.declared.Refusal.{Refusal}
+use Rattle.line_sender.specs.declared.Refusal.TheVariants.{WrongLength, Broken, TooLarge, NoRoom}
 use Rattle.line_sender.specs.States.{in_range, stored, keeping}
+
+-- ---- refusals
+
+-- the refusal that has the number n, 1, 5, 2 or 4; number 2 names the place
+abbrev pub refusal : ℕ → ℕ → Refusal
+refusal n place =
+    cond (eqb n 1) WrongLength (cond (eqb n 5) Broken (cond (eqb n 2) (TooLarge place) NoRoom))
+
+-- the number of each, and what it names
+abbrev pub told_of : Refusal → Told
+told_of WrongLength = record { number = 1; named = [] }
+told_of Broken = record { number = 5; named = [] }
+told_of (TooLarge place) = record { number = 2; named = place ∷ [] }
+told_of NoRoom = record { number = 4; named = [] }
+
+-- what an answer tells
+abbrev pub told : {A : Type 0} → Result A Refusal → Told
+told (Ok a) = record { number = 0; named = [] }
+told (Err e) = told_of e
+
+-- that of a block that was not made
+abbrev pub refused_for : Unmade → Refusal
+refused_for Unmade.WrongLength = WrongLength
+refused_for (Unmade.TooLarge place) = TooLarge place
+refused_for Unmade.NoRoom = NoRoom
 
 -- ---- send: one block of values vs, the output being O
 
@@ -26,14 +54,24 @@ send_conditions s vs O =
 abbrev pub send_number : Sender → List ℕ → List ℕ → ℕ
 send_number s vs O = number_of (send_conditions s vs O)
 
+-- what the answer tells: number 2 names the lowest place
+abbrev pub sent_told : Sender → List ℕ → List ℕ → Told
+sent_told s vs O =
+    record { number = send_number s vs O; named = cond (eqb (send_number s vs O) 2) (first_large vs ∷ []) [] }
+
 -- the block is kept under the next number; a refusal changes nothing, and number 2 names the lowest place
 abbrev pub sent_as : ℕ → Sender → List ℕ → Sent
 sent_as n s vs =
-    cond (eqb n 0) (record { sender = keeping s (block_of vs); answer = 0; place = 0 })
-    (record { sender = s; answer = n; place = cond (eqb n 2) (first_large vs) 0 })
+    cond (eqb n 0) (record { sender = keeping s (block_of vs); answer = Ok tt })
+    (record { sender = s; answer = Err (refusal n (first_large vs)) })
 
 abbrev pub sent_by : Sender → List ℕ → List ℕ → Sent
 sent_by s vs O = sent_as (send_number s vs O) s vs
+
+-- the next sender, or why there is none, as `send` hands it back
+abbrev pub with_answer : Sender → Result Sender Refusal → Sent
+with_answer s (Ok next) = record { sender = next; answer = Ok tt }
+with_answer s (Err e) = record { sender = s; answer = Err e }
 
 abbrev pub sent_left : Sender → List ℕ → List ℕ → List ℕ
 sent_left s vs O = cond (eqb (send_number s vs O) 0) (block_of vs ++ drop 17 O) O
@@ -60,13 +98,14 @@ from_on s x = syn ∷ syn ∷ four x ∷ drop (17 * before s x) (stored s)
 
 -- "A request for a number not kept gets no bytes and says so"
 abbrev pub reply_to : Sender → List ℕ → Reply
-reply_to s qs = cond (well_formed qs) (cond (is_kept s (wanted qs)) Again NotKept) NoRequest
+reply_to s qs =
+    let x = wanted qs in
+    cond (well_formed qs) (cond (is_kept s x) (Again (length (from_on s x))) NotKept) NoRequest
 
 abbrev pub bytes_for : Reply → Sender → ℕ → List ℕ
-bytes_for Again s x = from_on s x
+bytes_for (Again n) s x = from_on s x
 bytes_for NotKept s x = []
 bytes_for NoRequest s x = []
-bytes_for Refused s x = []
 
 abbrev pub bytes_to : Sender → List ℕ → List ℕ
 bytes_to s qs = bytes_for (reply_to s qs) s (wanted qs)
@@ -84,14 +123,25 @@ resend_conditions s qs O =
 abbrev pub resend_number : Sender → List ℕ → List ℕ → ℕ
 resend_number s qs O = number_of (resend_conditions s qs O)
 
--- "A repeated request changes no stored block and no next number"
-abbrev pub resent_as : ℕ → Sender → List ℕ → Resent
-resent_as n s qs =
-    cond (eqb n 0) (record { sender = s; answer = 0; reply = reply_to s qs; written = length (bytes_to s qs) })
-    (record { sender = s; answer = n; reply = Refused; written = 0 })
+abbrev pub resent_told : Sender → List ℕ → List ℕ → Told
+resent_told s qs O = record { number = resend_number s qs O; named = [] }
 
+-- the number of bytes written
+abbrev pub written : Result Reply Refusal → ℕ
+written (Ok (Again n)) = n
+written (Ok NotKept) = 0
+written (Ok NoRequest) = 0
+written (Err e) = 0
+
+abbrev pub reply_as : ℕ → Sender → List ℕ → Result Reply Refusal
+reply_as n s qs = cond (eqb n 0) (Ok (reply_to s qs)) (Err (refusal n 0))
+
+abbrev pub reply_by : Sender → List ℕ → List ℕ → Result Reply Refusal
+reply_by s qs O = reply_as (resend_number s qs O) s qs
+
+-- "A repeated request changes no stored block and no next number"
 abbrev pub resent_by : Sender → List ℕ → List ℕ → Resent
-resent_by s qs O = resent_as (resend_number s qs O) s qs
+resent_by s qs O = record { sender = s; reply = reply_by s qs O }
 
 abbrev pub resent_left : Sender → List ℕ → List ℕ → List ℕ
 resent_left s qs O =

@@ -1,11 +1,11 @@
 -- A whole run: what a sender has sent and heard, call after call. Assumes nothing.
-use Rattle.std.specs.Prelude.{Bool, true, false, cond, List, [], ◌∷◌, ◌++◌, map, ℕ, ◌-◌, eqb, length, take, drop}
+use Rattle.std.specs.Prelude.{cond, List, [], ◌∷◌, ◌++◌, map, ℕ, ◌-◌, length, take, drop, is_ok}
+use Rattle.few.specs.Bytes.{contents}
 use Rattle.block_maker.specs.Making.{block_of}
 use Rattle.line_codes.specs.Codes.{plainly, nack}
 use Rattle.line_sender.specs.declared.Sender.{Sender}
 use Rattle.line_sender.specs.declared.Heard.{Heard}
-use Rattle.line_sender.specs.States.{new_sender}
-use Rattle.line_sender.specs.Calls.{sent_by, resent_by, resent_left}
+use Rattle.line_sender.specs.Calls.{sent_by, written, resent_by, resent_left}
 use Rattle.line_sender.specs.Hearing.{heard_by}
 
 -- values to send or a request to answer, each with the output lent, or a byte heard
@@ -28,7 +28,7 @@ after s (c ∷ cs) = after (obey c s) cs
 
 -- one for each send that is answered with 0
 abbrev pub made_by : Call → Sender → List (List ℕ)
-made_by (send vs O) s = cond (eqb (sent_by s vs O).answer 0) (block_of vs ∷ []) []
+made_by (send vs O) s = cond (is_ok (sent_by s vs O).answer) (block_of vs ∷ []) []
 made_by (resend qs O) s = []
 made_by (hear b) s = []
 
@@ -48,10 +48,10 @@ having_sent s O uss = after s (map (λ (us : List ℕ). send us O) uss)
 
 -- at one call: the values that pass on, and the request that is whole
 abbrev pub passed_in : Heard → List ℕ
-passed_in h = take h.passed h.values
+passed_in h = contents h.values
 
 abbrev pub asked_in : Heard → List ℕ
-asked_in h = take h.asked h.request
+asked_in h = contents h.request
 
 -- the state after bytes heard one after the other
 abbrev pub hearing_all : Sender → List ℕ → Sender
@@ -71,7 +71,7 @@ held_back s = cond s.nack (plainly nack ∷ []) []
 
 -- the bytes with which it answers a request
 abbrev pub answer_to : Sender → List ℕ → List ℕ → List ℕ
-answer_to s qs O = take (resent_by s qs O).written (resent_left s qs O)
+answer_to s qs O = take (written (resent_by s qs O).reply) (resent_left s qs O)
 
 -- those with which it answers bytes heard one after the other, each request that is whole
 abbrev pub answers_to : Sender → List ℕ → List ℕ → List ℕ

@@ -1,33 +1,19 @@
 // What a byte of the return line is: by itself, and behind a NACK that is held.
-ghost use Rattle.std.specs.Prelude.{◌≡◌, [], ◌∷◌};
-ghost use Rattle.line_sender.specs.Hearing.{holding, heard_alone, heard_behind};
+ghost use Rattle.std.specs.Prelude.{◌≡◌, Ok, []};
+ghost use Rattle.line_sender.specs.Hearing.{holding, giving, heard_alone, heard_behind};
 
 use crate::{Heard, Sender};
+use few::Few;
 
-pub(crate) fn give(
-    sender: Sender,
-    answer: u8,
-    values: [u8; 2],
-    passed: usize,
-    request: [u8; 2],
-    asked: usize,
-) -> Heard
-    ensures { result ≡ record {
-      sender = sender;
-      answer = answer;
-      values = values;
-      passed = passed;
-      request = request;
-      asked = asked;
-    } }
+// No value passes on, and no request is whole.
+pub(crate) fn silent(sender: Sender) -> Heard
+    ensures { result ≡ giving (Ok tt) sender [] [] }
 {
     Heard {
-        sender: sender,
-        answer: answer,
-        values: values,
-        passed: passed,
-        request: request,
-        asked: asked,
+        sender,
+        answer: Ok(()),
+        values: Few::none(),
+        request: Few::none(),
     }
 }
 
@@ -35,13 +21,7 @@ pub(crate) fn give(
 fn hold(sender: Sender, nack: bool) -> Sender
     ensures { result ≡ holding sender nack }
 {
-    let blocks = sender.blocks;
-    Sender {
-        blocks: blocks,
-        kept: sender.kept,
-        next: sender.next,
-        nack: nack,
-    }
+    Sender { nack, ..sender }
 }
 
 // A NACK is held; any other byte passes on.
@@ -49,10 +29,13 @@ pub(crate) fn alone(sender: Sender, byte: u8) -> Heard
     ensures { result ≡ heard_alone sender [] byte }
 {
     if byte == 149 {
-        return give(hold(sender, true), 0, [0, 0], 0, [0, 0], 0);
+        silent(hold(sender, true))
+    } else {
+        Heard {
+            values: Few::of(&[line_codes::plain(byte)]),
+            ..silent(hold(sender, false))
+        }
     }
-    let value = line_codes::plain(byte);
-    give(hold(sender, false), 0, [value, 0], 1, [0, 0], 0)
 }
 
 // The two are a request; or the NACK passes on as 1/5, and the byte is looked at by itself.
@@ -61,11 +44,19 @@ pub(crate) fn behind(sender: Sender, byte: u8) -> Heard
 {
     let named = line_codes::request(byte % 16);
     if byte == named[1] {
-        return give(hold(sender, false), 0, [0, 0], 0, [149, byte], 2);
+        Heard {
+            request: Few::of(&[149, byte]),
+            ..silent(hold(sender, false))
+        }
+    } else if byte == 149 {
+        Heard {
+            values: Few::of(&[21]),
+            ..silent(hold(sender, true))
+        }
+    } else {
+        Heard {
+            values: Few::of(&[21, line_codes::plain(byte)]),
+            ..silent(hold(sender, false))
+        }
     }
-    if byte == 149 {
-        return give(hold(sender, true), 0, [21, 0], 1, [0, 0], 0);
-    }
-    let value = line_codes::plain(byte);
-    give(hold(sender, false), 0, [21, value], 2, [0, 0], 0)
 }

@@ -10,21 +10,29 @@
 #![tactic(auto)]
 
 ghost use Rattle.std.specs.Prelude.{◌≡◌, ◌≤◌, ◌<◌, length, take};
+ghost use Rattle.numbers.specs.Numbers.{number_of};
+ghost use Rattle.line_receiver.specs.Calls.{answer_number};
 ghost use Rattle.line_sender.specs.States.{new_sender, keeping};
-ghost use Rattle.line_sender.specs.Calls.{sent_by, sent_left, resent_by, resent_left};
-ghost use Rattle.line_sender.specs.Hearing.{heard_by};
+ghost use Rattle.line_sender.specs.Calls.{refused_for, told, sent_told, resent_told};
+ghost use Rattle.line_sender.specs.Calls.{with_answer, sent_by, sent_left, reply_by, resent_by, resent_left};
+ghost use Rattle.line_sender.specs.Hearing.{hear_conditions, heard_by};
 
 mod hearing;
 mod stores;
 
-use block_maker::Made;
-use hearing::{alone, behind, give};
+use block_maker::Unmade;
+use few::Few;
+use hearing::{alone, behind, silent};
+use line_receiver::Broken;
 pub use stores::in_range;
 use stores::{begin_again, put_in, shifted};
 
 #[derive(Clone, Copy)]
 pub struct Sender {
-    // The first `kept` blocks of seventeen bytes are those kept, oldest first; the others are no part of the state.
+    // The first `kept` blocks of seventeen bytes are those kept, oldest first; the others are no part of the state. One
+    // array, and not sixteen of seventeen: a request is answered with a part of it as it stands. Not a `Few<272>`: the
+    // array and the count are the state's form, any bytes may stand past the kept, where a `Few` has 0, and `kept` counts
+    // blocks.
     pub blocks: [u8; 272],
     // 0 to 16.
     pub kept: usize,
@@ -34,70 +42,60 @@ pub struct Sender {
     pub nack: bool,
 }
 
+// Why a call does nothing: the answer's numbers are 1, 5, 2 and 4.
+#[derive(Clone, Copy, PartialEq, Eq)]
+pub enum Refusal {
+    WrongLength,
+    Broken,
+    // The lowest place of a value above 127, counted from 0.
+    TooLarge(usize),
+    NoRoom,
+}
+
 // What `send` hands back.
 #[derive(Clone, Copy)]
 pub struct Sent {
     pub sender: Sender,
-    // 0, 1, 5, 2 or 4.
-    pub answer: u8,
-    // The lowest place of a value above 127, for number 2; else 0.
-    pub place: usize,
+    pub answer: Result<(), Refusal>,
 }
 
 // What a request is answered with.
-#[derive(Clone, Copy)]
+#[derive(Clone, Copy, PartialEq, Eq)]
 pub enum Reply {
-    // The blocks from that one on.
-    Again,
+    // The blocks from that one on, in so many bytes.
+    Again(usize),
     NotKept,
     NoRequest,
-    // Nothing, for a number that is not 0.
-    Refused,
 }
 
 // What `resend` hands back.
 #[derive(Clone, Copy)]
 pub struct Resent {
     pub sender: Sender,
-    // 0, 1, 5 or 4.
-    pub answer: u8,
-    pub reply: Reply,
-    pub written: usize,
+    pub reply: Result<Reply, Refusal>,
 }
 
-// What `hear` hands back. The places past a count are 0.
+// What `hear` hands back.
 #[derive(Clone, Copy)]
 pub struct Heard {
     pub sender: Sender,
-    // 0, or 5 for a broken state, which is handed back.
-    pub answer: u8,
-    // The first `passed` are the values that pass on: none, one or two.
-    pub values: [u8; 2],
-    pub passed: usize,
-    // The first `asked` are a request that is now whole, to be handed to `resend`: none or two.
-    pub request: [u8; 2],
-    pub asked: usize,
+    // Broken where the state is; it comes back as it was.
+    pub answer: Result<(), Broken>,
+    // The values that pass on: none, one or two.
+    pub values: Few<2>,
+    // A request that is now whole, to be handed to `resend`: none or two bytes.
+    pub request: Few<2>,
 }
 
-fn refuse(sender: Sender, answer: u8, place: usize) -> Sent
-    ensures { result ≡ record { sender = sender; answer = answer; place = place } }
-{
-    Sent {
-        sender: sender,
-        answer: answer,
-        place: place,
-    }
-}
+impl From<Unmade> for Refusal {
+    ghost from_gives = { λ unmade refusal. refusal ≡ refused_for unmade };
 
-// The state stays.
-fn reply_by(same: Sender, answer: u8, reply: Reply, written: usize) -> Resent
-    ensures { result ≡ record { sender = same; answer = answer; reply = reply; written = written } }
-{
-    Resent {
-        sender: same,
-        answer: answer,
-        reply: reply,
-        written: written,
+    fn from(unmade: Unmade) -> Refusal {
+        match unmade {
+            Unmade::WrongLength => Refusal::WrongLength,
+            Unmade::TooLarge(place) => Refusal::TooLarge(place),
+            Unmade::NoRoom => Refusal::NoRoom,
+        }
     }
 }
 
@@ -119,110 +117,114 @@ impl Sender {
         requires { (17 ≤ length block.now) × (self.kept < 17) }
         ensures { result ≡ keeping self (take 17 block.now) }
     {
-        let kept = self.kept;
-        let old = self.blocks;
         let next = line_codes::next_number(self.next);
-        let nack = self.nack;
-        if kept < 16 {
-            let blocks = put_in(old, 17 * kept, block);
-            return Sender {
-                blocks: blocks,
-                kept: kept + 1,
-                next: next,
-                nack: nack,
-            };
+        if self.kept < 16 {
+            Sender {
+                blocks: put_in(self.blocks, 17 * self.kept, block),
+                kept: self.kept + 1,
+                next,
+                ..self
+            }
+        } else {
+            Sender {
+                blocks: put_in(shifted(self.blocks), 255, block),
+                kept: 16,
+                next,
+                ..self
+            }
         }
-        let blocks = put_in(shifted(old), 255, block);
-        Sender {
-            blocks: blocks,
-            kept: 16,
-            next: next,
-            nack: nack,
+    }
+
+    // The sender that keeps one block of these values, which stands in the output; or why there is none.
+    fn make(self, values: &[u8], out: &mut [u8]) -> Result<Sender, Refusal>
+        ensures made { with_answer self result ≡ sent_by self values.now out.old }
+        ensures left { out.new ≡ sent_left self values.now out.old }
+    {
+        if values.is_empty() || 15 < values.len() {
+            return Err(Refusal::WrongLength);
         }
+        if !in_range(self) {
+            return Err(Refusal::Broken);
+        }
+        block_maker::make(values, out)?;
+        Ok(self.keep(out))
     }
 
     // One block of 1 to 15 values, in the first seventeen bytes of the output, and kept; or why there is none.
     pub fn send(self, values: &[u8], out: &mut [u8]) -> Sent
-        ensures { (result ≡ sent_by self values.now out.old)
-            × (out.new ≡ sent_left self values.now out.old) }
+        ensures sent { result ≡ sent_by self values.now out.old }
+        ensures left { out.new ≡ sent_left self values.now out.old }
+        ensures given { told result.answer ≡ sent_told self values.now out.old }
     {
-        let n = values.len();
-        if n == 0 {
-            return refuse(self, 1, 0);
+        match self.make(values, out) {
+            Ok(sender) => Sent {
+                sender,
+                answer: Ok(()),
+            },
+            Err(refusal) => Sent {
+                sender: self,
+                answer: Err(refusal),
+            },
         }
-        if 15 < n {
-            return refuse(self, 1, 0);
+    }
+
+    // What a request brings.
+    fn reply(self, request: &[u8], out: &mut [u8]) -> Result<Reply, Refusal>
+        ensures replied { result ≡ reply_by self request.now out.old }
+        ensures left { out.new ≡ resent_left self request.now out.old }
+    {
+        if request.len() != 2 {
+            return Err(Refusal::WrongLength);
         }
-        if in_range(self) {
-            let made = block_maker::make(values, out);
-            match made {
-                Made::Taken => {
-                    let sender = self.keep(out);
-                    Sent {
-                        sender: sender,
-                        answer: 0,
-                        place: 0,
-                    }
-                }
-                Made::WrongLength => refuse(self, 1, 0),
-                Made::TooLarge(place) => refuse(self, 2, place),
-                Made::NoRoom => refuse(self, 4, 0),
-            }
-        } else {
-            refuse(self, 5, 0)
+        if !in_range(self) {
+            return Err(Refusal::Broken);
         }
+        let code = request[1];
+        let number = code % 16;
+        let named = line_codes::request(number);
+        if request[0] != named[0] || code != named[1] {
+            return Ok(Reply::NoRequest);
+        }
+        let before = (number as usize + self.kept + 16 - self.next as usize) % 16;
+        if self.kept <= before {
+            return Ok(Reply::NotKept);
+        }
+        let blocks = &self.blocks[17 * before..17 * self.kept];
+        let count = 3 + blocks.len();
+        if out.len() < count {
+            return Err(Refusal::NoRoom);
+        }
+        begin_again(code, blocks, out);
+        Ok(Reply::Again(count))
     }
 
     // Two bytes as they arrived from the hut, answered into the output. The state stays.
     pub fn resend(self, request: &[u8], out: &mut [u8]) -> Resent
-        ensures { (result ≡ resent_by self request.now out.old)
-            × (out.new ≡ resent_left self request.now out.old) }
+        ensures resent { result ≡ resent_by self request.now out.old }
+        ensures left { out.new ≡ resent_left self request.now out.old }
+        ensures given { told result.reply ≡ resent_told self request.now out.old }
     {
-        let n = request.len();
-        if n != 2 {
-            return reply_by(self, 1, Reply::Refused, 0);
-        }
-        if in_range(self) {
-            let first = request[0];
-            let code = request[1];
-            let number = code % 16;
-            let named = line_codes::request(number);
-            if first != named[0] {
-                return reply_by(self, 0, Reply::NoRequest, 0);
-            }
-            if code != named[1] {
-                return reply_by(self, 0, Reply::NoRequest, 0);
-            }
-            let kept = self.kept;
-            let next = self.next;
-            let before = (number as usize + kept + 16 - next as usize) % 16;
-            if kept <= before {
-                return reply_by(self, 0, Reply::NotKept, 0);
-            }
-            let count = 3 + 17 * (kept - before);
-            if out.len() < count {
-                return reply_by(self, 4, Reply::Refused, 0);
-            }
-            let blocks = self.blocks;
-            begin_again(blocks, 17 * before, code, count, out);
-            reply_by(self, 0, Reply::Again, count)
-        } else {
-            reply_by(self, 5, Reply::Refused, 0)
+        Resent {
+            sender: self,
+            reply: self.reply(request, out),
         }
     }
 
     // One byte of the return line.
     pub fn hear(self, byte: u8) -> Heard
-        ensures { result ≡ heard_by self byte }
+        ensures heard { result ≡ heard_by self byte }
+        ensures given { answer_number result.answer ≡ number_of (hear_conditions self) }
     {
-        if in_range(self) {
-            if self.nack {
-                behind(self, byte)
-            } else {
-                alone(self, byte)
-            }
+        if !in_range(self) {
+            return Heard {
+                answer: Err(Broken),
+                ..silent(self)
+            };
+        }
+        if self.nack {
+            behind(self, byte)
         } else {
-            give(self, 5, [0, 0], 0, [0, 0], 0)
+            alone(self, byte)
         }
     }
 }

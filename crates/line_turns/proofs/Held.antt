@@ -2,11 +2,12 @@
 use mathlib.Core.Path.{◌≡◌, refl, sym, ap, ap₂, ◌∙◌}
 use mathlib.Core.Bool.{Bool, true, false, cond, ◌&&◌}
 use mathlib.Core.List.{List, [], ◌∷◌, ◌++◌, map, map-append}
-use Prim.Native.Nat.{ℕ, zero, suc, ◌+◌, ◌-◌, ◌≤◌, ◌<◌, zero-le}
+use Prim.Native.Nat.{ℕ, zero, suc, ◌+◌, ◌-◌, ◌≤◌, ◌<◌, min, zero-le}
+use native.Mathlib.Numerals.{add-one}
 use native.Mathlib.Omega.{arith}
 use lib.Dec.{T, ltb}
-use lib.ListN.{length, take, get_or, replicate, length-take}
-use lib.Seq.{paste-zero, paste-suc, take-suc, take_all, length-take-le}
+use lib.ListN.{length, take, drop, get_or, replicate, length-take, replicate-append-replicate}
+use lib.Seq.{paste-zero, paste-suc, take-suc, take-take, length-take-le}
 use borrow.Author.Tests.{ltb-true, lt-ltb, le-ltb}
 use Rattle.laws.proofs.Computed.{fails, holds, is_true, and_left, and_right, chosen}
 use Rattle.line_phases.specs.Phases.{awaits_more, seen_in_range}
@@ -22,7 +23,6 @@ use Rattle.line_receiver.proofs.Kept.{run_append, sent_append}
 use Rattle.line_receiver.proofs.Ranges.{in_range_lem, number_in}
 use Rattle.line_turns.specs.Notes.{note_on, note_of, notes_of}
 use Rattle.line_turns.specs.Turns.{holds_in, holds_more, only_held, behind, held_of, filled, one_more, still, turn_of}
-use Rattle.line_turns.specs.declared.Turn.{Turn}
 use Rattle.line_turns.specs.declared.holding.Held.{Held}
 
 -- ---- one byte
@@ -70,8 +70,7 @@ notes_append (x ∷ xs) ys r = ap (λ (ns : List ℕ). note_of r x ∷ ns) (note
 
 -- one more copy at the end
 pub one_copy : {A : Type 0} (k : ℕ) (a : A) → replicate k a ++ (a ∷ []) ≡ replicate (suc k) a
-one_copy zero a = refl
-one_copy (suc k) a = ap (λ (l : List _). a ∷ l) (one_copy k a)
+one_copy k a = replicate-append-replicate k 1 a ∙ ap (λ (n : ℕ). replicate n a) (add-one k)
 
 none_held : (r : Receiver) (xs : List ℕ) → HeldOnly r xs 0
 none_held r xs = (
@@ -111,12 +110,6 @@ module _ (r : Receiver) (xs : List ℕ) (i : in_range r ≡ true) (p : r.phase �
 
 -- ---- as many as are only held
 
-pub as_many : (n : ℕ) (xs : List ℕ) → n ≤ length xs → n ≡ length (take n xs)
-as_many n xs h = sym (length-take-le n xs h)
-
-pub as_there : (n : ℕ) (xs : List ℕ) → length xs < n → length xs ≡ length (take n xs)
-as_there n xs h = sym (ap length (take_all n xs (omega (arith, h))))
-
 module _ (r : Receiver) (xs : List ℕ) where
   pub counted : holds_more r ≡ true → only_held r xs ≡ length (take (16 - r.count) xs)
   counted h = ap (λ (t : Bool). cond t (length (take (16 - r.count) xs)) 0) h
@@ -124,16 +117,31 @@ module _ (r : Receiver) (xs : List ℕ) where
   pub uncounted : holds_more r ≡ false → only_held r xs ≡ 0
   uncounted h = ap (λ (t : Bool). cond t (length (take (16 - r.count) xs)) 0) h
 
+  -- the first k of them are all that are held
+  filled_first : (k : ℕ) → k ≤ length xs → filled r (take k xs) (length (take k xs)) ≡ filled r xs k
+  filled_first k h =
+      ap (filled r (take k xs)) (length-take-le k xs h)
+      ∙ ap (λ (ys : List ℕ). filled_with ys k) (take-take k k xs (omega arith))
+    where
+      filled_with : List ℕ → ℕ → Receiver
+      filled_with ys n =
+          record {
+            held = take r.count r.held ++ ys ++ drop (r.count + n) r.held;
+            count = r.count + n;
+            number = r.number;
+            phase = r.phase;
+          }
+
   -- k being as many
-  pub holds_some : holds_more r ≡ true → length r.held ≡ 17 → (k : ℕ) → k ≡ length (take (16 - r.count) xs)
-      → {q : Receiver} → q ≡ filled r xs k → record { receiver = q; count = k } ≡ held_of r xs
+  pub holds_some : holds_more r ≡ true → length r.held ≡ 17 → (k : ℕ) → k ≡ min (length xs) (16 - r.count)
+      → {q : Receiver} → q ≡ filled r (take k xs) (length (take k xs)) → record { receiver = q; count = k } ≡ held_of r xs
   unfolding held_of
   holds_some h array k e {q} f =
       let few = length-take (16 - r.count) xs in
       let held = all_held r xs (held_range r h) (held_phase r h) array k
-      (omega (arith, e, few, held_few r h)) (omega (arith, e, few)) in
-      ap (λ (p : Receiver). record { receiver = p; count = k }) (f ∙ sym held.0)
-      ∙ ap (λ (j : ℕ). record { receiver = behind r xs j; count = j }) (e ∙ sym (counted h))
+      (omega (arith, e, held_few r h)) (omega (arith, e)) in
+      ap (λ (p : Receiver). record { receiver = p; count = k }) (f ∙ filled_first k (omega (arith, e)) ∙ sym held.0)
+      ∙ ap (λ (j : ℕ). record { receiver = behind r xs j; count = j }) (omega (arith, e, few) ∙ sym (counted h))
 
   pub few_there : only_held r xs ≤ length xs
   few_there =
@@ -182,6 +190,8 @@ module _ (r : Receiver) (xs : List ℕ) where
         reached
         ∙ as_one true (lt-ltb h.count (length xs) l)
 
-    pub ends : length xs ≤ h.count → {t : Turn} → t ≡ still h.receiver h.count → t ≡ turn_of r xs
-    ends l {t} f =
-        f ∙ ap (λ (q : Receiver). still q h.count) reached ∙ as_one false (le-ltb h.count (length xs) l)
+    pub ends : length xs ≤ h.count → {s : Stepped} → s ≡ silent h.receiver
+        → record { stepped = s; note = 0; took = h.count } ≡ turn_of r xs
+    ends l {s} f =
+        ap (λ (w : Stepped). record { stepped = w; note = 0; took = h.count }) f
+        ∙ ap (λ (q : Receiver). still q h.count) reached ∙ as_one false (le-ltb h.count (length xs) l)

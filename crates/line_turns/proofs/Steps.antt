@@ -97,12 +97,12 @@ taken_singly r xs array some =
 
 -- at most fifteen values pass, and two bytes are asked
 pub few_sent : (r : Receiver) (xs : List ℕ)
-    → ((turn_of r xs).stepped.passed ≤ 15) × ((turn_of r xs).stepped.asked ≤ 2)
+    → ((turn_of r xs).stepped.values.count ≤ 15) × ((turn_of r xs).stepped.request.count ≤ 2)
 unfolding turn_of
 few_sent r xs =
     let k : ℕ = only_held r xs in
     let q = run r (map byte (take k xs)) in
-    chosen (λ (t : Turn). (t.stepped.passed ≤ 15) × (t.stepped.asked ≤ 2)) (ltb k (length xs))
+    chosen (λ (t : Turn). (t.stepped.values.count ≤ 15) × (t.stepped.request.count ≤ 2)) (ltb k (length xs))
     (λ e. (passed_few q (get_or xs k 0), (asked_counted q (get_or xs k 0)).0)) (λ e. (omega arith, omega arith))
 
 -- ---- how many a turn takes

@@ -1,12 +1,10 @@
 -- A note on each byte: what it was to the receiver (01, "The receiver"). Assumes nothing.
-use Rattle.std.specs.Prelude.{List, [], ◌∷◌, ℕ, ◌+◌, ◌%◌}
+use Rattle.std.specs.Prelude.{List, [], ◌∷◌, ℕ, ◌+◌, ◌%◌, Option, Some, None}
 use Rattle.line_phases.specs.declared.Phase.{Phase}
 use Rattle.line_phases.specs.declared.Phase.TheVariants.{Off, Collecting, Waiting}
 use Rattle.block_reader.specs.declared.Verdict.{Verdict}
 use Rattle.block_reader.specs.declared.Verdict.TheVariants.{Clean, Mended, Repeat, WrongLength}
 use Rattle.line_receiver.specs.declared.Receiver.{Receiver}
-use Rattle.line_receiver.specs.declared.Judged.{Judged}
-use Rattle.line_receiver.specs.declared.Judged.TheVariants.{Nothing, Block}
 use Rattle.line_receiver.specs.declared.Stepped.{Stepped}
 use Rattle.line_receiver.specs.Calls.{stepped}
 
@@ -30,9 +28,9 @@ silent_note Off after = 0
 silent_note Collecting after = 0
 silent_note (Waiting n) after = wait_note after
 
-abbrev pub note_by : Judged → Phase → Phase → ℕ
-note_by Nothing before after = silent_note before after
-note_by (Block v) before after = verdict_note v
+abbrev pub note_by : Option Verdict → Phase → Phase → ℕ
+note_by None before after = silent_note before after
+note_by (Some v) before after = verdict_note v
 
 -- on a byte heard in this phase, by what came of it
 abbrev pub note_on : Phase → Stepped → ℕ

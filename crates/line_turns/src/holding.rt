@@ -15,34 +15,20 @@ pub(crate) struct Held {
 fn is_holding(r: Receiver) -> bool
     ensures { result ≡ holds_more r }
 {
-    let phase = r.phase;
-    match phase {
-        Phase::Off => false,
-        Phase::Collecting => {
-            if line_receiver::in_range(r) {
-                line_phases::awaits_more(r.count)
-            } else {
-                false
-            }
-        }
-        Phase::Waiting(_) => false,
-    }
+    matches!(r.phase, Phase::Collecting)
+        && line_receiver::in_range(r)
+        && line_phases::awaits_more(r.count)
 }
 
-// The first `count` bytes behind those held.
-fn fill(r: Receiver, bytes: &[u8], count: usize) -> Receiver
-    requires count_bound { r.count + count ≤ 16 }
-    requires count_in_bounds { count ≤ length bytes.now }
-    ensures { result ≡ filled r bytes.now count }
+// These bytes behind those held.
+fn fill(r: Receiver, bytes: &[u8]) -> Receiver
+    requires { r.count + length bytes.now ≤ 16 }
+    ensures { result ≡ filled r bytes.now (length bytes.now) }
 {
-    let at = r.count;
     let mut next = r;
-    let mut i: usize = 0;
-    while i < count {
-        next.held[at + i] = bytes[i];
-        i += 1;
-    }
-    next.count = at + count;
+    let count = r.count + bytes.len();
+    next.held[r.count..count].copy_from_slice(bytes);
+    next.count = count;
     next
 }
 
@@ -51,29 +37,21 @@ fn fill(r: Receiver, bytes: &[u8], count: usize) -> Receiver
 pub(crate) fn hold(r: Receiver, bytes: &[u8]) -> Held
     ensures { result ≡ held_of r bytes.now }
 {
-    if is_holding(r) {
-        if r.count == 0 {
-            if 16 <= bytes.len() {
-                return Held {
-                    receiver: fill(r, bytes, 16),
-                    count: 16,
-                };
-            }
-        }
-        let lacking = 16 - r.count;
-        if bytes.len() < lacking {
-            return Held {
-                receiver: fill(r, bytes, bytes.len()),
-                count: bytes.len(),
-            };
-        }
+    if !is_holding(r) {
         return Held {
-            receiver: fill(r, bytes, lacking),
-            count: lacking,
+            receiver: r,
+            count: 0,
         };
     }
+    if r.count == 0 && 16 <= bytes.len() {
+        return Held {
+            receiver: fill(r, &bytes[..16]),
+            count: 16,
+        };
+    }
+    let count = bytes.len().min(16 - r.count);
     Held {
-        receiver: r,
-        count: 0,
+        receiver: fill(r, &bytes[..count]),
+        count,
     }
 }

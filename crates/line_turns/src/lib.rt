@@ -7,13 +7,13 @@
 #![tactic(auto)]
 
 ghost use Rattle.std.specs.Prelude.{◌≡◌};
-ghost use Rattle.line_turns.specs.Turns.{still, turn_of};
+ghost use Rattle.line_turns.specs.Turns.{turn_of};
 
 mod holding;
 mod notes;
 
-use holding::hold;
-use line_receiver::{Judged, Receiver, Stepped};
+use holding::{Held, hold};
+use line_receiver::{Receiver, Stepped};
 use notes::note_on;
 
 // What the bytes of a turn come to.
@@ -27,41 +27,24 @@ pub struct Turn {
     pub took: usize,
 }
 
-// Bytes that were only held.
-fn only_held(receiver: Receiver, took: usize) -> Turn
-    ensures { result ≡ still receiver took }
-{
-    Turn {
-        stepped: Stepped {
-            next: receiver,
-            answer: 0,
-            values: [0; 15],
-            passed: 0,
-            request: [0; 2],
-            asked: 0,
-            judged: Judged::Nothing,
-        },
-        note: 0,
-        took,
-    }
-}
-
 // The first bytes that are only held, and the one behind them. A broken receiver hears nothing of its byte, and comes
 // back with its number.
 pub fn take_turn(receiver: Receiver, bytes: &[u8]) -> Turn
     ensures { result ≡ turn_of receiver bytes.now }
 {
-    let held = hold(receiver, bytes);
-    let receiver = held.receiver;
-    let count = held.count;
+    let Held { receiver, count } = hold(receiver, bytes);
     if count < bytes.len() {
-        let phase = receiver.phase;
         let stepped = receiver.step(bytes[count]);
-        return Turn {
+        Turn {
             stepped,
-            note: note_on(phase, stepped),
+            note: note_on(receiver.phase, stepped),
             took: count + 1,
-        };
+        }
+    } else {
+        Turn {
+            stepped: line_receiver::silent(receiver),
+            note: 0,
+            took: count,
+        }
     }
-    only_held(receiver, count)
 }

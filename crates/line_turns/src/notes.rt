@@ -1,9 +1,10 @@
-// A note on a byte: what it was to the receiver.
+// A note on a byte: what it was to the receiver. It is a byte and no enum, since `board_pieces::lines_noted` promises the
+// notes as numbers, one in each byte's place.
 ghost use Rattle.std.specs.Prelude.{◌≡◌};
 ghost use Rattle.line_turns.specs.Notes.{verdict_note, wait_note, silent_note, note_on};
 
 use block_reader::Verdict;
-use line_receiver::{Judged, Phase, Stepped};
+use line_receiver::{Phase, Stepped};
 
 // On the seventeenth byte of a block: the verdict. A bit is below 128, so that nothing is lost.
 fn verdict_note(verdict: Verdict) -> u8
@@ -12,8 +13,7 @@ fn verdict_note(verdict: Verdict) -> u8
     match verdict {
         Verdict::Clean => 1,
         Verdict::Mended(bit) => 128 + bit % 128,
-        Verdict::Repeat => 2,
-        Verdict::WrongLength => 2,
+        Verdict::Repeat | Verdict::WrongLength => 2,
     }
 }
 
@@ -22,8 +22,7 @@ fn wait_note(after: Phase) -> u8
     ensures { result ≡ wait_note after }
 {
     match after {
-        Phase::Off => 4,
-        Phase::Collecting => 4,
+        Phase::Off | Phase::Collecting => 4,
         Phase::Waiting(_) => 3,
     }
 }
@@ -33,8 +32,7 @@ fn silent_note(before: Phase, after: Phase) -> u8
     ensures { result ≡ silent_note before after }
 {
     match before {
-        Phase::Off => 0,
-        Phase::Collecting => 0,
+        Phase::Off | Phase::Collecting => 0,
         Phase::Waiting(_) => wait_note(after),
     }
 }
@@ -43,11 +41,8 @@ fn silent_note(before: Phase, after: Phase) -> u8
 pub(crate) fn note_on(before: Phase, stepped: Stepped) -> u8
     ensures { result ≡ note_on before stepped }
 {
-    let judged = stepped.judged;
-    let next = stepped.next;
-    let after = next.phase;
-    match judged {
-        Judged::Nothing => silent_note(before, after),
-        Judged::Block(verdict) => verdict_note(verdict),
+    match stepped.judged {
+        None => silent_note(before, stepped.next.phase),
+        Some(verdict) => verdict_note(verdict),
     }
 }

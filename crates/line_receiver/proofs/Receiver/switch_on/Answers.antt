@@ -1,6 +1,0 @@
--- `line_receiver::Receiver::switch_on` meets its contract. Assumes nothing.
-use borrow.Author.Rules.{rules}
-use Rattle.line_receiver.proofs.Receiver.switch_on.Goals as goal
-
-pub returns : goal.returns
-returns c = c.switched.ensures
