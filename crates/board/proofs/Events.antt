@@ -2,6 +2,7 @@
 -- table. Assumes nothing.
 use mathlib.Core.Path.{◌≡◌, refl, sym, ap, ◌∙◌}
 use mathlib.Core.Bool.{true, cond}
+use Rattle.std.specs.Prelude.{Ok}
 use mathlib.Core.List.{List, [], ◌∷◌, append-nil}
 use Prim.Native.Nat.{ℕ, ◌<◌}
 use Rattle.links_wiring.specs.declared.Module.{Module}
@@ -13,7 +14,6 @@ use Rattle.line_receiver.specs.Runs.{Event as Heard, obey as receiver_obey, sent
 use Rattle.links_hearing.specs.declared.ears.Ear.TheVariants.{Socket as socket_ear}
 use Rattle.links.specs.declared.Links.{Links}
 use Rattle.links.specs.declared.Outcome.{Outcome as LinksOutcome}
-use Rattle.links.specs.declared.Answer.TheVariants.{Taken}
 use Rattle.links.specs.States.{unfinished}
 use Rattle.links.specs.Runs.{Call, key as key_call, value, given}
 use Rattle.links.proofs.Flow.{plain_goes, key_goes}
@@ -30,8 +30,7 @@ use Rattle.board.proofs.Parts.{apart}
 
 -- a call of `line` is what is heard of its byte, with the screen shown its share
 pub one_heard : (b : Board) (x : ℕ) → in_range b ≡ true
-    → at_line b x ≡ (let h = heard_by (front_of b) x in
-    joined b h.front.receiver h.front.links h.shares Taken h.request h.asked)
+    → at_line b x ≡ joined b (heard_by (front_of b) x) (Ok tt)
 unfolding following heard_by
 one_heard b x e = simp e
 

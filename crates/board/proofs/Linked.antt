@@ -8,7 +8,7 @@ use Rattle.values.specs.Large.{Values}
 use Rattle.values.proofs.Found.{values_none, values_cons, values_head, values_tail}
 use Rattle.links_wiring.specs.declared.Module.{Module}
 use Rattle.links_wiring.specs.declared.Module.TheVariants.{Modem}
-use Rattle.links_wiring.specs.declared.Table.{Table}
+use Rattle.links_wiring.specs.Each.{Table}
 use Rattle.links_wiring.specs.Tables.{reaches}
 use Rattle.links_commands.specs.Commands.{pro1}
 use Rattle.links_hearing.specs.declared.Unfinished.TheVariants.{Free}

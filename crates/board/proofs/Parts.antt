@@ -13,13 +13,14 @@ use Rattle.links_hearing.specs.declared.ears.Ear.TheVariants.{Socket as from_soc
 use Rattle.links.specs.Runs.{Call, key as key_call, value, to_local as local_call, to_connected as connected_call}
 use Rattle.links.specs.Runs.{obey as links_obey, given, run as links_run}
 use Rattle.links.proofs.Ranges.{run_kept}
-use Rattle.board_feeding.specs.Feeding.{from_line, got, outlet, contents, fed}
-use Rattle.board_feeding.proofs.Outlets.{held}
+use Rattle.few.specs.Bytes.{contents}
+use Rattle.board_feeding.specs.Feeding.{from_line, got, outlet, fed}
+use Rattle.few.proofs.Kept.{kept}
 use Rattle.board_feeding.proofs.Suffices.{run_append, got_append, small_got}
 use Rattle.screen_page.specs.declared.Screen.{Screen as Page}
 use Rattle.screen_page.specs.Ranges.{InScreen}
 use Rattle.screen_page.proofs.Stays.{unbroken}
-use Rattle.screen_answers.specs.declared.Answer.TheVariants.{Taken}
+use Rattle.screen_answers.specs.Answers.{Taken}
 use Rattle.screen.specs.declared.Ran.{Ran}
 use Rattle.screen.specs.Calls.{ran}
 use Rattle.screen.proofs.Given.{ran_none, ran_in, run_parts, run_taken}
@@ -47,9 +48,9 @@ out_of : (g : Module → List ℕ) (o : Outcome)
     → o.keyboard ≡ outlet (g Keyboard) → o.modem ≡ outlet (g Modem) → o.socket ≡ outlet (g Socket)
     → (m : Module) → Outside m → out_to m o ≡ g m
 out_of g o k l s Screen u = absurd u
-out_of g o k l s Keyboard u = ap contents k ∙ held (g Keyboard)
-out_of g o k l s Modem u = ap contents l ∙ held (g Modem)
-out_of g o k l s Socket u = ap contents s ∙ held (g Socket)
+out_of g o k l s Keyboard u = ap contents k ∙ kept 75 (g Keyboard)
+out_of g o k l s Modem u = ap contents l ∙ kept 75 (g Modem)
+out_of g o k l s Socket u = ap contents s ∙ kept 75 (g Socket)
 
 front_is : (h : Heard) (b : Board) → obey_front h b ≡ following b (receiver_obey h b.receiver)
 front_is (byte x) b = refl
@@ -69,7 +70,7 @@ front_alone h b i =
     (record {
       receiver = refl;
       links = refl;
-      screen = ap (λ (vs : List ℕ). (ran b.screen vs).screen) (held (g Screen));
+      screen = ap (λ (vs : List ℕ). (ran b.screen vs).screen) (kept 75 (g Screen));
       taken = screen_takes b cs i;
       handed = out_of g (followed b s) refl refl refl;
       asked = sym (append-nil (sent_by s).asked);
@@ -78,7 +79,7 @@ front_alone h b i =
             receiver = keeps h b.receiver i.receiver;
             links = run_kept b.links cs i.links;
             screen =
-                subst⁻¹ (λ (vs : List ℕ). InScreen (ran b.screen vs).screen) (held (g Screen))
+                subst⁻¹ (λ (vs : List ℕ). InScreen (ran b.screen vs).screen) (kept 75 (g Screen))
                 (ran_in b.screen (g Screen) i.screen (small_got Screen b.links cs));
           };
     })
@@ -90,7 +91,7 @@ call_alone c b i =
     let o = links_obey c b.links in
     let g : Module → List ℕ = given b.links c in
     let all : (m : Module) → g m ≡ got m b.links (c ∷ []) = λ m. sym (append-nil (g m)) in
-    let shown : contents (outlet (g Screen)) ≡ got Screen b.links (c ∷ []) = held (g Screen) ∙ all Screen in
+    let shown : contents (outlet (g Screen)) ≡ got Screen b.links (c ∷ []) = kept 75 (g Screen) ∙ all Screen in
     let e : passing b o ≡ passed_on b o = simp (tested b i) in
     subst⁻¹ (λ (p : Outcome). Alone b p [] (c ∷ [])) e
     (record {

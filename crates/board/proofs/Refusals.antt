@@ -1,5 +1,6 @@
 -- Refusals: 5 before 2, the board handed back, and nothing handed out. Assumes nothing.
 use mathlib.Core.Path.{◌≡◌, refl, sym, ap, ◌∙◌, subst⁻¹}
+use Rattle.std.specs.Prelude.{Ok}
 use mathlib.Core.List.{[]}
 use mathlib.Core.Bool.{Bool, true, false, not, ◌&&◌}
 use Rattle.laws.proofs.Computed.{and_left, and_right, fails, holds, is_true}
@@ -9,8 +10,8 @@ use Rattle.line_receiver.specs.Runs.{byte, on, off, ask}
 use Rattle.links_wiring.specs.declared.Module.{Module}
 use Rattle.links_wiring.specs.declared.Module.TheVariants.{Screen, Keyboard, Modem, Socket}
 use Rattle.links_hearing.specs.declared.ears.Ear.TheVariants.{Socket as from_socket}
-use Rattle.links.specs.declared.Answer.{Answer}
-use Rattle.links.specs.declared.Answer.TheVariants.{Taken, TooLarge, Broken}
+use Rattle.links.specs.declared.Refusal.{Refusal}
+use Rattle.links.specs.declared.Refusal.TheVariants.{TooLarge, Broken}
 use Rattle.links.specs.States.{in_range as links_in_range}
 use Rattle.links.specs.Calls.{told}
 use Rattle.links.specs.Runs.{Call, key as key_call, value, to_local as local_call, to_connected as connected_call}
@@ -64,11 +65,11 @@ large to_connected b i t = absurd (fails (sym t) tt)
 -- ---- and else it is taken
 
 call_taken : (c : Call) (b : Board) → in_range b ≡ true → call_too_large c ≡ false
-    → (passing b (links_obey c b.links)).answer ≡ Taken
+    → (passing b (links_obey c b.links)).answer ≡ Ok tt
 unfolding passing
 call_taken c b i h = simp i (taken_else c b.links (links_in b i) h)
 
-taken_else_here : (e : Event) (b : Board) → in_range b ≡ true → too_large e ≡ false → (obey e b).answer ≡ Taken
+taken_else_here : (e : Event) (b : Board) → in_range b ≡ true → too_large e ≡ false → (obey e b).answer ≡ Ok tt
 unfolding following
 taken_else_here (front (byte x)) b i t = simp i
 taken_else_here (front on) b i t = simp i
@@ -81,7 +82,7 @@ taken_else_here to_connected b i t = call_taken connected_call b i refl
 
 -- ---- whatever is refused changes nothing
 
-unmoved : (b : Board) (a : Answer) → Unmoved b (refused b a)
+unmoved : (b : Board) (a : Refusal) → Unmoved b (refused b a)
 unmoved b a = record { next = refl; silent = silent; unasked = refl }
   where
     silent : (m : Module) → out_to m (refused b a) ≡ []
@@ -90,7 +91,7 @@ unmoved b a = record { next = refl; silent = silent; unasked = refl }
     silent Modem = refl
     silent Socket = refl
 
-pub nothing_moves : (e : Event) (b : Board) → ((obey e b).answer ≡ Taken → ⊥) → Unmoved b (obey e b)
+pub nothing_moves : (e : Event) (b : Board) → ((obey e b).answer ≡ Ok tt → ⊥) → Unmoved b (obey e b)
 nothing_moves e b n = go (in_range b) (too_large e) refl refl
   where
     go : (i t : Bool) → in_range b ≡ i → too_large e ≡ t → Unmoved b (obey e b)

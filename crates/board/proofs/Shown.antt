@@ -22,7 +22,7 @@ use Rattle.links.specs.Runs.{Call, value, obey as links_obey, given, got_from, T
 use Rattle.links.proofs.Own.{can_say}
 use Rattle.links.proofs.Through.{comes_through}
 use Rattle.board_feeding.specs.Feeding.{from_line, got}
-use Rattle.screen_answers.specs.declared.Answer.TheVariants.{Taken}
+use Rattle.screen_answers.specs.Answers.{Taken}
 use Rattle.screen.specs.Calls.{ran}
 use Rattle.board.specs.declared.Board.{Board}
 use Rattle.board.specs.Runs.{front, run, requests, heard_in, calls_in, InBoard}

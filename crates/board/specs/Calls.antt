@@ -1,19 +1,19 @@
 -- What each call answers, hands back and hands out, for any board and any value (01, "Numbers given"). Assumes
 -- nothing.
-use Rattle.std.specs.Prelude.{cond, List, [], ℕ, replicate}
-use Rattle.line_receiver.specs.declared.Receiver.{Receiver}
+use Rattle.std.specs.Prelude.{Result, Ok, Err, cond, [], ℕ}
 use Rattle.line_receiver.specs.declared.Stepped.{Stepped}
 use Rattle.line_receiver.specs.Calls.{stepped, switched_on as receiver_on, switched_off as receiver_off}
 use Rattle.line_receiver.specs.Calls.{asked_again as receiver_asked}
 use Rattle.links_sending.specs.Sending.{gets}
-use Rattle.links.specs.declared.Links.{Links}
-use Rattle.links.specs.declared.Answer.{Answer}
-use Rattle.links.specs.declared.Answer.TheVariants.{Taken, Broken}
+use Rattle.links.specs.declared.Refusal.{Refusal}
+use Rattle.links.specs.declared.Refusal.TheVariants.{Broken}
 use Rattle.links.specs.declared.Outcome.{Outcome as LinksOutcome}
 use Rattle.links.specs.Calls.{from_keyboard, from_socket, with_local as links_local, with_connected as links_connected}
-use Rattle.board_feeding.specs.declared.Shares.{Shares}
-use Rattle.board_feeding.specs.Feeding.{outlet, contents, shares_of}
+use Rattle.few.specs.Bytes.{few, contents}
+use Rattle.board_feeding.specs.Feeding.{outlet, shares_of}
 use Rattle.screen.specs.Calls.{ran}
+use Rattle.board_front.specs.declared.Front.{Front}
+use Rattle.board_front.specs.declared.Heard.{Heard}
 use Rattle.board_front.specs.LineBytes.{sent_on}
 use Rattle.board.specs.declared.Board.{Board}
 use Rattle.board.specs.declared.Outcome.{Outcome}
@@ -22,37 +22,37 @@ use Rattle.board.specs.Boards.{in_range}
 -- ---- what a call hands back
 
 -- the board as it was, and nothing handed out
-abbrev pub refused : Board → Answer → Outcome
-refused b a =
+abbrev pub refused : Board → Refusal → Outcome
+refused b refusal =
     record {
       next = b;
-      answer = a;
+      answer = Err refusal;
       keyboard = outlet [];
       modem = outlet [];
       socket = outlet [];
-      request = replicate 2 0;
-      asked = 0;
+      request = few 2 [];
     }
 
--- this receiver and these links, the screen with its share written, and the other shares handed out
-abbrev pub joined : Board → Receiver → Links → Shares → Answer → List ℕ → ℕ → Outcome
-joined b r l w a request asked =
+-- the receiver and the links that have heard, the screen with its share written, and the rest handed out
+abbrev pub joined : Board → Heard → Result (Unit {0}) Refusal → Outcome
+joined b h a =
     record {
-      next = record { receiver = r; links = l; screen = (ran b.screen (contents w.screen)).screen };
+      next = record {
+        receiver = h.front.receiver;
+        links = h.front.links;
+        screen = (ran b.screen (contents h.shares.screen)).screen;
+      };
       answer = a;
-      keyboard = w.keyboard;
-      modem = w.modem;
-      socket = w.socket;
-      request = request;
-      asked = asked;
+      keyboard = h.shares.keyboard;
+      modem = h.shares.modem;
+      socket = h.shares.socket;
+      request = h.request;
     }
 
 -- ---- the receiver's calls: what it hands out is sent on
 
 abbrev pub followed : Board → Stepped → Outcome
-followed b s =
-    let h = sent_on b.links s in
-    joined b h.front.receiver h.front.links h.shares Taken h.request h.asked
+followed b s = joined b (sent_on b.links s) (Ok tt)
 
 unfoldable pub following : Board → Stepped → Outcome
 following b s = cond (in_range b) (followed b s) (refused b Broken)
@@ -71,9 +71,14 @@ asked_again b = following b (receiver_asked b.receiver)
 
 -- ---- the links' calls: what they send goes its way, and their answer is the board's
 
+-- the receiver hears nothing
+abbrev pub heard_of : Board → LinksOutcome → Heard
+heard_of b o =
+    let front : Front = record { receiver = b.receiver; links = o.next } in
+    record { front = front; shares = shares_of (gets o.sent); request = few 2 [] }
+
 abbrev pub passed_on : Board → LinksOutcome → Outcome
-passed_on b o =
-    joined b b.receiver o.next (shares_of (gets o.sent)) o.answer (replicate 2 0) 0
+passed_on b o = joined b (heard_of b o) o.answer
 
 unfoldable pub passing : Board → LinksOutcome → Outcome
 passing b o = cond (in_range b) (passed_on b o) (refused b Broken)

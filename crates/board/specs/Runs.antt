@@ -1,6 +1,6 @@
 -- A run of a board: what happens to it, call by call, and what is handed out; and the runs of its parts alone. Assumes
 -- nothing.
-use Rattle.std.specs.Prelude.{◌≡◌, Bool, false, not, List, [], ◌∷◌, ◌++◌, ℕ, ltb, take}
+use Rattle.std.specs.Prelude.{◌≡◌, Bool, false, not, List, [], ◌∷◌, ◌++◌, ℕ, ltb}
 use Rattle.numbers.specs.Numbers.{Told, told_of}
 use Rattle.line_receiver.specs.declared.Receiver.{Receiver}
 use Rattle.line_receiver.specs.States.{InReceiver}
@@ -12,9 +12,10 @@ use Rattle.links_hearing.specs.declared.ears.Ear.TheVariants.{Socket as from_soc
 use Rattle.links.specs.Runs.{Call, key as key_call, value, to_local as local_call, to_connected as connected_call}
 use Rattle.links.specs.Runs.{run as links_run}
 use Rattle.links.specs.Runs.{InLinks}
-use Rattle.board_feeding.specs.Feeding.{from_line, got, contents}
+use Rattle.few.specs.Bytes.{contents}
+use Rattle.board_feeding.specs.Feeding.{from_line, got}
 use Rattle.screen_page.specs.Ranges.{InScreen}
-use Rattle.screen_answers.specs.declared.Answer.TheVariants.{Taken}
+use Rattle.screen_answers.specs.Answers.{Taken}
 use Rattle.screen.specs.Calls.{ran}
 use Rattle.board.specs.declared.Board.{Board}
 use Rattle.board.specs.declared.Outcome.{Outcome}
@@ -63,7 +64,7 @@ out_to Socket o = contents o.socket
 
 -- the receiver's bytes for the modem, at one call
 abbrev pub request : Outcome → List ℕ
-request o = take o.asked o.request
+request o = contents o.request
 
 -- in a run, in its order
 unfoldable pub handed_to : Module → Board → List Event → List ℕ

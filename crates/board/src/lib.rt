@@ -10,18 +10,20 @@
 // shows that each part goes its own way in every run.
 #![tactic(auto)]
 
-ghost use Rattle.std.specs.Prelude.{◌≡◌, take};
+ghost use Rattle.std.specs.Prelude.{◌≡◌};
 ghost use Rattle.screen.specs.Calls.{ran};
 ghost use Rattle.board.specs.Boards.{fresh_board, in_range};
 ghost use Rattle.board.specs.Calls.{refused, joined, following, passing};
 ghost use Rattle.board.specs.Calls.{at_line, switched_on, switched_off, asked_again};
 ghost use Rattle.board.specs.Calls.{at_key, at_socket, with_local, with_connected};
 
-use board_feeding::{Outlet, Shares};
-// What a call of a board answers is what one of the links can: the paper's 0, 2 and 5.
+use board_feeding::Outlet;
+use board_front::{Front, Heard};
+use few::Few;
 use line_receiver::{Receiver, Stepped};
-pub use links::Answer;
 use links::Links;
+// A call of a board is refused for what one of the links can be: the paper's 2 and 5.
+pub use links::Refusal;
 use screen_page::Screen;
 
 #[derive(Clone, Copy)]
@@ -34,42 +36,37 @@ pub struct Board {
 #[derive(Clone, Copy)]
 pub struct Outcome {
     pub next: Board,
-    pub answer: Answer,
+    // The paper's 0, or why it is refused.
+    pub answer: Result<(), Refusal>,
     // What the links send to each module but the screen, without parity.
     pub keyboard: Outlet,
     pub modem: Outlet,
     pub socket: Outlet,
-    // The first `asked` are the receiver's bytes for the modem, with parity: none or two.
-    pub request: [u8; 2],
-    pub asked: usize,
+    // The receiver's bytes for the modem, with parity: none or two.
+    pub request: Few<2>,
 }
 
 // Nothing changes, and nothing is handed out.
-fn refuse(board: Board, answer: Answer) -> Outcome
-    ensures { result ≡ refused board answer }
+fn refuse(board: Board, refusal: Refusal) -> Outcome
+    ensures { result ≡ refused board refusal }
 {
-    let none = Outlet {
-        codes: [0; 75],
-        count: 0,
-    };
+    let none = Outlet::none();
     Outcome {
         next: board,
-        answer,
+        answer: Err(refusal),
         keyboard: none,
         modem: none,
         socket: none,
-        request: [0; 2],
-        asked: 0,
+        request: Few::none(),
     }
 }
 
-// The first `count` codes that the links send to a screen, written there. It gives no number: the links send no value
-// above 127, and the board's calls test their screen before they come here. A broken one comes back as it was.
-pub fn show(screen: Screen, sent: &[u8], count: usize) -> Screen
-    ensures { result ≡ (ran «screen» (take count sent.now)).screen }
+// The codes that the links send to a screen, written there. It gives no number: the links send no value above 127, and
+// the board's calls test their screen before they come here. A broken one comes back as it was.
+pub fn show(screen: Screen, codes: &[u8]) -> Screen
+    ensures { result ≡ (ran «screen» codes.now).screen }
 {
-    let shown = screen::run(screen, lent::first(sent, count));
-    shown.screen
+    screen::run(screen, codes).screen
 }
 
 impl Board {
@@ -85,149 +82,119 @@ impl Board {
     }
 
     // Whether each part lies within its ranges.
+    #[tactic(auto, unfolding(crate::specs::Boards::in_range))]
     pub fn in_range(self) -> bool
         ensures { result ≡ in_range self }
     {
-        let links = self.links;
-        let screen = self.screen;
-        if line_receiver::in_range(self.receiver) {
-            if links.in_range() {
-                if screen.is_broken() {
-                    return false;
-                }
-                return true;
-            }
-        }
-        false
+        line_receiver::in_range(self.receiver) && self.links.in_range() && !self.screen.is_broken()
     }
 
-    // This receiver and these links, the screen with its share written, and the other shares handed out.
-    fn join(
-        self,
-        receiver: Receiver,
-        links: Links,
-        shares: Shares,
-        answer: Answer,
-        request: [u8; 2],
-        asked: usize,
-    ) -> Outcome
-        ensures { result ≡ joined self receiver links shares answer request asked }
+    // The receiver and the links that have heard, the screen with its share written, and the rest handed out.
+    fn join(self, heard: Heard, answer: Result<(), Refusal>) -> Outcome
+        ensures { result ≡ joined self heard answer }
     {
-        let sent = shares.screen;
-        let codes = sent.codes;
-        let screen = show(self.screen, &codes, sent.count);
-        let keyboard = shares.keyboard;
-        let modem = shares.modem;
-        let socket = shares.socket;
-        let next = Board {
-            receiver,
-            links,
-            screen,
-        };
+        let shares = heard.shares;
         Outcome {
-            next,
+            next: Board {
+                receiver: heard.front.receiver,
+                links: heard.front.links,
+                screen: show(self.screen, shares.screen.bytes()),
+            },
             answer,
-            keyboard,
-            modem,
-            socket,
-            request,
-            asked,
+            keyboard: shares.keyboard,
+            modem: shares.modem,
+            socket: shares.socket,
+            request: heard.request,
         }
     }
 
     // What the receiver hands out goes its way: its values through the links, its request out.
-    fn follow(self, heard: Stepped) -> Outcome
-        ensures { result ≡ following self heard }
+    #[tactic(auto, unfolding(crate::specs::Calls::following))]
+    fn follow(self, stepped: Stepped) -> Outcome
+        ensures { result ≡ following self stepped }
     {
         if self.in_range() {
-            let sent = board_front::send_on(self.links, heard);
-            let front = sent.front;
-            let receiver = front.receiver;
-            let links = front.links;
-            let shares = sent.shares;
-            let request = sent.request;
-            return self.join(receiver, links, shares, Answer::Taken, request, sent.asked);
+            self.join(board_front::send_on(self.links, stepped), Ok(()))
+        } else {
+            refuse(self, Refusal::Broken)
         }
-        refuse(self, Answer::Broken)
     }
 
     // What the links hand out goes its way.
+    #[tactic(auto, unfolding(crate::specs::Calls::passing))]
     fn pass(self, outcome: links::Outcome) -> Outcome
         ensures { result ≡ passing self outcome }
     {
         if self.in_range() {
-            let sent = outcome.sent;
-            let receiver = self.receiver;
-            let links = outcome.next;
-            let answer = outcome.answer;
-            let request = [0u8; 2];
-            let shares = board_feeding::share_out(sent);
-            return self.join(receiver, links, shares, answer, request, 0);
+            let unasked = Few::none();
+            let heard = Heard {
+                front: Front {
+                    receiver: self.receiver,
+                    links: outcome.next,
+                },
+                shares: board_feeding::share_out(outcome.sent),
+                request: unasked,
+            };
+            self.join(heard, outcome.answer)
+        } else {
+            refuse(self, Refusal::Broken)
         }
-        refuse(self, Answer::Broken)
     }
 
     // One byte from the line.
     pub fn line(self, byte: u8) -> Outcome
         ensures { result ≡ at_line self byte }
     {
-        let receiver = self.receiver;
-        self.follow(receiver.step(byte))
+        self.follow(self.receiver.step(byte))
     }
 
     // The host switches the receiver on: number 0, nothing held; also when it is on.
     pub fn switch_on(self) -> Outcome
         ensures { result ≡ switched_on self }
     {
-        let receiver = self.receiver;
-        self.follow(receiver.switch_on())
+        self.follow(self.receiver.switch_on())
     }
 
     // The host switches the receiver off.
     pub fn switch_off(self) -> Outcome
         ensures { result ≡ switched_off self }
     {
-        let receiver = self.receiver;
-        self.follow(receiver.switch_off())
+        self.follow(self.receiver.switch_off())
     }
 
     // The receiver's request once more while it waits.
     pub fn ask_again(self) -> Outcome
         ensures { result ≡ asked_again self }
     {
-        let receiver = self.receiver;
-        self.follow(receiver.ask_again())
+        self.follow(self.receiver.ask_again())
     }
 
     // One value from the keyboard.
     pub fn key(self, value: u8) -> Outcome
         ensures { result ≡ at_key self value }
     {
-        let links = self.links;
-        self.pass(links.from_keyboard(value))
+        self.pass(self.links.from_keyboard(value))
     }
 
     // One value from the socket.
     pub fn socket(self, value: u8) -> Outcome
         ensures { result ≡ at_socket self value }
     {
-        let links = self.links;
-        self.pass(links.from_socket(value))
+        self.pass(self.links.from_socket(value))
     }
 
-    // The host chooses the local table.
+    // The host chooses the local table. It is a call of its own, as is the choice of the other: the theorem
+    // `each_call_reaches_its_part`, clause `tables`, speaks of the two.
     pub fn with_local(self) -> Outcome
         ensures { result ≡ with_local self }
     {
-        let links = self.links;
-        self.pass(links.with_local())
+        self.pass(self.links.with_local())
     }
 
     // The host chooses the connected table.
     pub fn with_connected(self) -> Outcome
         ensures { result ≡ with_connected self }
     {
-        let links = self.links;
-        self.pass(links.with_connected())
+        self.pass(self.links.with_connected())
     }
 }

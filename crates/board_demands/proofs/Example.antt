@@ -17,7 +17,6 @@ use Rattle.links_hearing.specs.declared.Unfinished.TheVariants.{Free}
 use Rattle.links_hearing.specs.Phrases.{alone, AllProper, Phrased}
 use Rattle.line_receiver.specs.States.{new_receiver}
 use Rattle.line_receiver.specs.Runs.{Event as Heard, byte, on, sent, all_passed, all_asked}
-use Rattle.screen_cells.specs.declared.Cell.{Cell}
 use Rattle.screen_cells.specs.Characters.{good_character}
 use Rattle.screen_sheet.specs.Clearing.{cleared}
 use Rattle.screen_sheet.specs.Within.{all_good}

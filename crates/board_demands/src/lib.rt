@@ -4,7 +4,7 @@
 // speaks. specs/Example is one page in bytes.
 #![tactic(auto)]
 
-ghost use Rattle.std.specs.Prelude.{◌≡◌, Bool, true, false, cond, List, [], ◌∷◌, ◌++◌, map, ℕ, ◌≤◌, ◌<◌, length, replicate};
+ghost use Rattle.std.specs.Prelude.{◌≡◌, Ok, Bool, true, false, cond, List, [], ◌∷◌, ◌++◌, map, ℕ, ◌≤◌, ◌<◌, length, replicate};
 ghost use Rattle.values.specs.Large.{Values};
 ghost use Rattle.links_wiring.specs.declared.Module.{Module};
 ghost use Rattle.links_wiring.specs.declared.Module.TheVariants.{Screen, Keyboard, Modem, Socket};
@@ -22,9 +22,9 @@ ghost use Rattle.links_hearing.specs.declared.ears.Ear.TheVariants.{Modem as mod
 ghost use Rattle.links.specs.declared.Links.{Links};
 ghost use Rattle.links.specs.States.{unfinished, in_range as links_in_range};
 ghost use Rattle.links.specs.Runs.{Throughout};
-ghost use Rattle.screen_answers.specs.declared.Answer.TheVariants.{Taken as TakenByScreen};
+ghost use Rattle.screen_answers.specs.Answers.{Taken as TakenByScreen};
 ghost use Rattle.screen.specs.Calls.{ran};
-ghost use Rattle.links.specs.declared.Answer.TheVariants.{Taken, TooLarge, Broken};
+ghost use Rattle.links.specs.declared.Refusal.TheVariants.{TooLarge, Broken};
 ghost use Rattle.links.specs.Calls.{told};
 ghost use Rattle.board_feeding.specs.Feeding.{from_line, nobody, fed, Enough};
 ghost use Rattle.board.specs.declared.Board.{Board};
@@ -40,7 +40,7 @@ ghost use Rattle.board_front.specs.Ample.{Ample};
 ghost use Rattle.board_front.specs.LineBytes.{heard_by, unheard};
 ghost use Rattle.board_pieces.specs.Pieces.{told as piece_told, lines_of, lines_told, is_taken, singly, handed, asked};
 ghost use Rattle.board_pieces.specs.Pieces.{refused as piece_refused};
-ghost use Rattle.board_pieces.specs.declared.Answer.TheVariants.{NoRoom, Broken as PieceBroken};
+ghost use Rattle.board_pieces.specs.declared.Refusal.TheVariants.{NoRoom, Broken as PieceBroken};
 ghost use Rattle.board_pieces.specs.Noted.{noted, noted_of, noted_told, is_noted};
 ghost use Rattle.board_pieces.specs.Claims.{TakenWhole, NothingTaken, RoomFor};
 ghost use Rattle.board_pieces.specs.Cuts.{second_taken, InTwo};
@@ -136,7 +136,7 @@ pub fn each_call_gives_its_number()
     ensures broken { (e : Event) (b : Board) → in_range b ≡ false → obey e b ≡ refused b Broken }
     ensures large { (e : Event) (b : Board) → in_range b ≡ true → too_large e ≡ true
         → obey e b ≡ refused b TooLarge }
-    ensures unmoved { (e : Event) (b : Board) → ((obey e b).answer ≡ Taken → ⊥) → Unmoved b (obey e b) }
+    ensures unmoved { (e : Event) (b : Board) → ((obey e b).answer ≡ Ok tt → ⊥) → Unmoved b (obey e b) }
 {}
 
 // A piece's number: 5 where any part is out of range, then 4 where an output lacks room, and else 0; there is room
@@ -204,8 +204,8 @@ pub fn seventy_five_places_suffice()
 // nothing; broken links take no value, and nobody gets anything, while the receiver goes on; and a value above 127 is
 // left out.
 pub fn hearing_is_the_call_without_its_number()
-    ensures line { (b : Board) (x : ℕ) → in_range b ≡ true → at_line b x ≡ (let h = heard_by (front_of b) x in
-        joined_of b h.front.receiver h.front.links h.shares Taken h.request h.asked) }
+    ensures line { (b : Board) (x : ℕ) → in_range b ≡ true → at_line b x
+        ≡ joined_of b (heard_by (front_of b) x) (Ok tt) }
     ensures receiver { (f : Front) (x : ℕ) → receiver_in_range f.receiver ≡ false → heard_by f x ≡ unheard f }
     ensures behind { (f : Front) (x : ℕ) → links_in_range f.links ≡ false
         → ((heard_by f x).front.links ≡ f.links) × ((heard_by f x).shares ≡ nobody)

@@ -2,16 +2,18 @@
 use mathlib.Core.Path.{◌≡◌, refl, sym, ap, ap₂, ◌∙◌}
 use mathlib.Core.Bool.{Bool, true, false, cond, ◌&&◌, not}
 use mathlib.Core.List.{List, [], ◌∷◌, ◌++◌}
-use Prim.Native.Nat.{ℕ, zero, suc, ◌+◌, ◌<◌}
-use native.Mathlib.Nat.{not-suc-le-zero, le_of_suc-le-suc}
-use native.Mathlib.Numerals.{add-one}
+use Prim.Native.Nat.{ℕ, zero, suc, ◌≤◌}
+use native.Mathlib.Omega.{arith}
 use lib.Dec.{ltb, eqb}
-use lib.ListN.{length, take, get_or}
+use lib.ListN.{length, length-take, take}
+use Rattle.std.proofs.lemmas.List.{take_all}
+use Rattle.std.specs.List.{fold}
 use borrow.Author.Tests.{ltb-true}
 use Rattle.laws.proofs.Computed.{fails, holds, is_true, and_left, and_right}
 use Rattle.links_wiring.specs.declared.Module.{Module}
 use Rattle.links_wiring.specs.declared.Module.TheVariants.{Screen, Keyboard, Modem, Socket}
-use Rattle.links_wiring.specs.Tables.{reaches, self_linked}
+use Rattle.links_wiring.specs.Each.{Row, either}
+use Rattle.links_wiring.specs.Tables.{marked, reaches, self_linked}
 use Rattle.links_hearing.specs.Hearing.{in_range as held_in_range}
 use Rattle.links_hearing.specs.declared.Unfinished.{Unfinished}
 use Rattle.links_hearing.specs.declared.Unfinished.TheVariants.{Free, Escape, Pro1, Pro2, Pro2With}
@@ -22,7 +24,7 @@ use Rattle.links.specs.States.{in_range, connected_links}
 use Rattle.links.specs.Runs.{value, run, PassedOn}
 use Rattle.links.proofs.Ranges.{tested}
 use Rattle.links.proofs.Flow.{plain_goes}
-use Rattle.board_feeding.specs.Feeding.{from_line, got, shares_of, fed}
+use Rattle.board_feeding.specs.Feeding.{from_line, got, outlet, Shares, shares_of, fed}
 use Rattle.board_feeding.specs.Plain.{plain, all_plain, is_free, are_plain}
 
 -- ---- what the test says
@@ -30,7 +32,7 @@ use Rattle.board_feeding.specs.Plain.{plain, all_plain, is_free, are_plain}
 -- links in range with nothing unfinished from the modem, and values of 0 to 127 without ESC
 record Passing (l : Links) (vs : List ℕ) : Type 0 where
   range : in_range l ≡ true
-  free : l.modem ≡ Free
+  free : l.unfinished.modem ≡ Free
   plain : all_plain vs ≡ true
 
 left : (a b : Bool) → a && b ≡ true → a ≡ true
@@ -38,14 +40,6 @@ left a b e = is_true a (and_left a b (holds e))
 
 right : (a b : Bool) → a && b ≡ true → b ≡ true
 right a b e = is_true b (and_right a b (holds e))
-
-and_true : (a : Bool) → a && true ≡ true && a
-and_true true = refl
-and_true false = refl
-
-pub and_assoc : (a b c : Bool) → a && (b && c) ≡ (a && b) && c
-and_assoc true b c = refl
-and_assoc false b c = refl
 
 not_esc : (v : ℕ) → not (eqb v 27) ≡ true → v ≡ 27 → ⊥
 not_esc v e q = fails (sym e ∙ ap (λ (n : ℕ). not (eqb n 27)) q) tt
@@ -60,16 +54,22 @@ is_free_lem Pro3 e = absurd (fails (sym e) tt)
 is_free_lem (Pro3With a) e = absurd (fails (sym e) tt)
 is_free_lem (Pro3Both a b) e = absurd (fails (sym e) tt)
 
-pub plain_further : (vs : List ℕ) (i : ℕ) → i < length vs
-    → all_plain (take (i + 1) vs) ≡ all_plain (take i vs) && plain (get_or vs i 0)
-plain_further vs i h = ap (λ (n : ℕ). all_plain (take n vs)) (add-one i) ∙ go vs i h
+-- each is looked at, whatever those before it are
+pub folded : (vs : List ℕ) → fold (λ (all : Bool) (v : ℕ). plain v && all) true vs ≡ all_plain vs
+folded vs = go true vs ∙ always (all_plain vs)
   where
-    go : (us : List ℕ) (k : ℕ) → k < length us → all_plain (take (suc k) us) ≡ all_plain (take k us) && plain (get_or us k 0)
-    go [] k l = absurd (not-suc-le-zero l)
-    go (u ∷ us) zero l = and_true (plain u)
-    go (u ∷ us) (suc k) l =
-        ap (λ (t : Bool). plain u && t) (go us k (le_of_suc-le-suc l))
-        ∙ and_assoc (plain u) (all_plain (take k us)) (plain (get_or us k 0))
+    always : (t : Bool) → t && true ≡ t
+    always true = refl
+    always false = refl
+
+    moved : (x y z : Bool) → y && (x && z) ≡ (x && y) && z
+    moved true y z = refl
+    moved false true z = refl
+    moved false false z = refl
+
+    go : (t : Bool) (us : List ℕ) → fold (λ (all : Bool) (v : ℕ). plain v && all) t us ≡ all_plain us && t
+    go t [] = refl
+    go t (u ∷ us) = go (plain u && t) us ∙ moved (plain u) (all_plain us) t
 
 first_plain : (n : ℕ) (vs : List ℕ) → all_plain vs ≡ true → all_plain (take n vs) ≡ true
 first_plain zero vs e = refl
@@ -81,10 +81,10 @@ first_plain (suc n) (v ∷ vs) e =
 tested_plain : (l : Links) (vs : List ℕ) (n : ℕ) → are_plain l vs ≡ true → Passing l (take n vs)
 unfolding are_plain
 tested_plain l vs n e =
-    let rest = right (is_free l.modem) (in_range l && all_plain vs) e in
+    let rest = right (is_free l.unfinished.modem) (in_range l && all_plain vs) e in
     record {
       range = left (in_range l) (all_plain vs) rest;
-      free = is_free_lem l.modem (left (is_free l.modem) (in_range l && all_plain vs) e);
+      free = is_free_lem l.unfinished.modem (left (is_free l.unfinished.modem) (in_range l && all_plain vs) e);
       plain = first_plain n vs (right (in_range l) (all_plain vs) rest);
     }
 
@@ -120,6 +120,14 @@ got_all m l (v ∷ vs) p =
     ap₂ (λ (us : List ℕ) (x : Links). us ++ got m x (from_line vs)) ((one p).reached m) (one p).state
     ∙ ap (λ (us : List ℕ). cond t (v ∷ []) [] ++ us) (got_all m l vs (tail p)) ∙ joined t v vs
 
+one_outlet : (t : Bool) (vs : List ℕ) → outlet (cond t vs []) ≡ cond t (outlet vs) (outlet [])
+one_outlet true vs = refl
+one_outlet false vs = refl
+
+by_mark : (w : Row) (vs : List ℕ)
+    → shares_of (λ m. cond (marked w m) vs []) ≡ either w (outlet vs) (outlet [])
+by_mark w vs = simp (one_outlet w.screen vs, one_outlet w.keyboard vs, one_outlet w.modem vs, one_outlet w.socket vs)
+
 -- ---- as many as pass, where all are plain
 
 module _ (l : Links) (vs : List ℕ) (n : ℕ) (e : are_plain l vs ≡ true) where
@@ -131,15 +139,24 @@ module _ (l : Links) (vs : List ℕ) (n : ℕ) (e : are_plain l vs ≡ true) whe
   pub as_they_are : (m : Module) → got m l (from_line (take n vs)) ≡ cond (reaches l.table Modem m) (take n vs) []
   as_they_are m = got_all m l (take n vs) (tested_plain l vs n e)
 
-  pub fed_all : fed l (take n vs)
+  fed_each : fed l (take n vs)
       ≡ record { links = l; shares = shares_of (λ m. cond (reaches l.table Modem m) (take n vs) []) }
   unfolding fed
-  fed_all = simp (links_stay, as_they_are Screen, as_they_are Keyboard, as_they_are Modem, as_they_are Socket)
+  fed_each = simp (links_stay, as_they_are Screen, as_they_are Keyboard, as_they_are Modem, as_they_are Socket)
+
+  -- each that is marked gets them, and there is room for them all
+  pub fed_all : length vs ≤ 75
+      → fed l (take n vs) ≡ record { links = l; shares = either l.table.modem (outlet (take 75 (take n vs))) (outlet []) }
+  fed_all h =
+      fed_each
+      ∙ ap (λ (w : Shares). record { links = l; shares = w }) (by_mark l.table.modem (take n vs))
+      ∙ ap (λ (us : List ℕ). record { links = l; shares = either l.table.modem (outlet us) (outlet []) })
+      (sym (take_all 75 (take n vs) (omega (arith, h, length-take n vs))))
 
 -- ---- written out: the first and the last value, those around ESC, ESC and 128; ESC unfinished
 
 pub as_written : (are_plain connected_links (0 ∷ 26 ∷ 28 ∷ 127 ∷ []) ≡ true) × (are_plain connected_links (27 ∷ []) ≡ false)
     × (are_plain connected_links (128 ∷ []) ≡ false)
-    × (are_plain (record { table = connected_links.table; modem = Escape; socket = Free }) (65 ∷ []) ≡ false)
+    × (are_plain (record { table = connected_links.table; unfinished = record { modem = Escape; socket = Free } }) (65 ∷ []) ≡ false)
 unfolding are_plain in_range self_linked held_in_range
 as_written = (refl, refl, refl, refl)

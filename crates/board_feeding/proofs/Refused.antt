@@ -10,7 +10,7 @@ use Rattle.links_sending.specs.Sending.{gets}
 use Rattle.links_sending.proofs.Getting.{gets_nothing}
 use Rattle.links_hearing.specs.declared.ears.Ear.TheVariants.{Modem as modem}
 use Rattle.links.specs.declared.Links.{Links}
-use Rattle.links.specs.declared.Answer.{Answer}
+use Rattle.links.specs.declared.Refusal.{Refusal}
 use Rattle.links.specs.declared.Outcome.{Outcome}
 use Rattle.links.specs.States.{in_range}
 use Rattle.links.specs.Calls.{refused}
@@ -19,7 +19,7 @@ use Rattle.links.proofs.Refusals.{broken, large}
 use Rattle.board_feeding.specs.Feeding.{from_line, got, nobody, fed}
 
 -- a value that the links refuse is left out
-module _ (l : Links) (v : ℕ) (a : Answer) (e : obey (value modem v) l ≡ refused l a) (vs : List ℕ) where
+module _ (l : Links) (v : ℕ) (a : Refusal) (e : obey (value modem v) l ≡ refused l a) (vs : List ℕ) where
   run_same : run l (from_line (v ∷ vs)) ≡ run l (from_line vs)
   run_same = ap (λ (o : Outcome). run o.next (from_line vs)) e
 

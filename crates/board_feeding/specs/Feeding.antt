@@ -1,15 +1,14 @@
 -- Values handed to the links one after the other (01, "Links and commands"). Assumes nothing.
-use Rattle.std.specs.Prelude.{List, [], ◌∷◌, ◌++◌, map, ℕ, ◌+◌, ◌-◌, ◌≤◌, length, take, drop, replicate}
+use Rattle.std.specs.Prelude.{List, [], ◌∷◌, ◌++◌, map, ℕ, ◌+◌, ◌≤◌, length, take, drop}
+use Rattle.few.specs.declared.Few.{Few}
+use Rattle.few.specs.Bytes.{few, contents}
 use Rattle.links_wiring.specs.declared.Module.{Module}
 use Rattle.links_wiring.specs.declared.Module.TheVariants.{Screen, Keyboard, Modem, Socket}
-use Rattle.links_sending.specs.declared.Bytes.{Bytes}
-use Rattle.links_sending.specs.declared.Sent.{Sent}
-use Rattle.links_sending.specs.Sending.{bytes_of}
+use Rattle.links_wiring.specs.declared.Each.{Each}
+use Rattle.links_sending.specs.Sending.{Sent}
 use Rattle.links.specs.declared.Links.{Links}
 use Rattle.links_hearing.specs.declared.ears.Ear.TheVariants.{Modem as modem}
 use Rattle.links.specs.Runs.{Call, value, obey, given, run}
-use Rattle.board_feeding.specs.declared.Outlet.{Outlet}
-use Rattle.board_feeding.specs.declared.Shares.{Shares}
 use Rattle.board_feeding.specs.declared.Fed.{Fed}
 
 -- ---- runs of the links
@@ -26,13 +25,13 @@ got m l (c ∷ cs) = given l c m ++ got m (obey c l).next cs
 -- ---- what a module gets, in seventy-five places
 
 -- the bytes, and 0 past them
-abbrev pub outlet : List ℕ → Outlet
-outlet vs = record { codes = vs ++ replicate (75 - length vs) 0; count = length vs }
-
-abbrev pub contents : Outlet → List ℕ
-contents o = take o.count o.codes
+abbrev pub outlet : List ℕ → Few 75
+outlet vs = few 75 vs
 
 -- what each module gets
+abbrev pub Shares : Type 0
+Shares = Each (Few 75)
+
 abbrev pub shares_of : (Module → List ℕ) → Shares
 shares_of g =
     record {
@@ -60,11 +59,11 @@ pub record Enough (w : Shares) : Type 0 where
 
 -- ---- one more call's bytes behind those there are
 
-abbrev pub appended : Outlet → Bytes → Outlet
+abbrev pub appended : Few 75 → Few 5 → Few 75
 appended o b =
     record {
-      codes = take o.count o.codes ++ bytes_of b ++ drop (o.count + length (bytes_of b)) o.codes;
-      count = o.count + length (bytes_of b);
+      codes = take o.count o.codes ++ contents b ++ drop (o.count + length (contents b)) o.codes;
+      count = o.count + length (contents b);
     }
 
 abbrev pub gathered : Shares → Sent → Shares

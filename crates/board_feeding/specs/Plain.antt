@@ -27,4 +27,4 @@ is_free (Pro3Both a b) = false
 
 -- links in range with nothing unfinished from the modem, and plain values
 unfoldable pub are_plain : Links → List ℕ → Bool
-are_plain l vs = is_free l.modem && (in_range l && all_plain vs)
+are_plain l vs = is_free l.unfinished.modem && (in_range l && all_plain vs)

@@ -1,9 +1,11 @@
 // Values that go along the links of the modem as they are.
-ghost use Rattle.std.specs.Prelude.{◌≡◌, true, cond, [], ◌≤◌, take};
-ghost use Rattle.board_feeding.specs.Feeding.{outlet, fed};
+ghost use Rattle.std.specs.Prelude.{◌≡◌, true};
+ghost use Rattle.few.specs.Bytes.{contents};
+ghost use Rattle.board_feeding.specs.Feeding.{fed};
 ghost use Rattle.board_feeding.specs.Plain.{plain, all_plain, is_free, are_plain};
 
-use crate::{Fed, Outlet, Shares};
+use crate::{Fed, Outlet};
+use few::Few;
 use links::Links;
 use links_hearing::Unfinished;
 
@@ -19,79 +21,34 @@ fn is_plain_value(value: u8) -> bool
 fn are_all_plain(values: [u8; 15]) -> bool
     ensures { result ≡ all_plain values }
 {
-    let mut plain = true;
-    let mut i: usize = 0;
-    while i < 15 {
-        let next = is_plain_value(values[i]);
-        plain = plain & next;
-        i += 1;
-    }
-    plain
+    values
+        .iter()
+        .fold(true, |all, value| is_plain_value(*value) && all)
 }
 
 // Whether nothing is unfinished.
 fn is_free(unfinished: Unfinished) -> bool
     ensures { result ≡ is_free unfinished }
 {
-    match unfinished {
-        Unfinished::Free => true,
-        Unfinished::Escape => false,
-        Unfinished::Pro1 => false,
-        Unfinished::Pro2 => false,
-        Unfinished::Pro2With(_) => false,
-        Unfinished::Pro3 => false,
-        Unfinished::Pro3With(_) => false,
-        Unfinished::Pro3Both(_, _) => false,
-    }
+    matches!(unfinished, Unfinished::Free)
 }
 
 // Whether the modem's values go to all that it reaches as they are, and leave the links as they were: these are in range
 // with nothing unfinished from the modem, and no value is ESC or above 127.
+#[tactic(auto, unfolding(crate::specs::Plain::are_plain))]
 pub fn are_plain(links: Links, values: [u8; 15]) -> bool
     ensures { result ≡ are_plain links values }
 {
-    let unfinished = links.modem;
-    if is_free(unfinished) {
-        if links.in_range() {
-            return are_all_plain(values);
-        }
-    }
-    false
-}
-
-// The first values, where they are marked.
-fn outlet_of(marked: bool, values: [u8; 15], count: usize) -> Outlet
-    requires { count ≤ 15 }
-    ensures { result ≡ outlet (cond marked (take count values) []) }
-{
-    let mut codes = [0u8; 75];
-    if marked {
-        let mut i: usize = 0;
-        while i < count {
-            codes[i] = values[i];
-            i += 1;
-        }
-        return Outlet { codes, count };
-    }
-    Outlet { codes, count: 0 }
+    is_free(links.unfinished.modem) && links.in_range() && are_all_plain(values)
 }
 
 // Plain values, along the links of the modem.
-pub(crate) fn pass_all(links: Links, values: [u8; 15], count: usize) -> Fed
-    requires few { count ≤ 15 }
-    requires plain { are_plain links values ≡ true }
-    ensures { result ≡ fed links (take count values) }
+#[tactic(auto, using(crate::proofs::Passed::fed_all))]
+pub(crate) fn pass_all(links: Links, values: Few<15>) -> Fed
+    requires { are_plain links values.codes ≡ true }
+    ensures { result ≡ fed links (contents values) }
 {
-    let row = links.table.modem;
-    let screen = outlet_of(row.screen, values, count);
-    let keyboard = outlet_of(row.keyboard, values, count);
-    let modem = outlet_of(row.modem, values, count);
-    let socket = outlet_of(row.socket, values, count);
-    let shares = Shares {
-        screen,
-        keyboard,
-        modem,
-        socket,
-    };
+    let plain = Outlet::of(values.bytes());
+    let shares = links.table.modem.either(plain, Outlet::none());
     Fed { links, shares }
 }

@@ -1,10 +1,10 @@
 -- How many values some bytes can bring, and requests: so outputs that are long enough surely fit. Assumes nothing.
-use mathlib.Core.Path.{◌≡◌, refl, sym, ap, ◌∙◌}
-use mathlib.Core.Bool.{Bool, true, false}
+use mathlib.Core.Path.{◌≡◌, refl, ap}
+use mathlib.Core.Bool.{true}
 use mathlib.Core.List.{List, [], ◌∷◌, ◌++◌}
-use Prim.Native.Nat.{ℕ, ◌+◌, ◌*◌, ◌≤◌, zero-le}
+use Prim.Native.Nat.{ℕ, ◌+◌, ◌-◌, ◌*◌, ◌≤◌, zero-le}
 use native.Mathlib.Omega.{arith}
-use lib.ListN.{length, length-append, length-map}
+use lib.ListN.{length, length-append, length-map, replicate}
 use borrow.Author.Tests.{ltb-false}
 use Rattle.laws.proofs.Computed.{chosen}
 use Rattle.links_wiring.specs.declared.Module.{Module}
@@ -21,17 +21,17 @@ use Rattle.line_phases.specs.declared.Phase.TheVariants.{Off, Collecting, Waitin
 use Rattle.line_receiver.specs.declared.Receiver.{Receiver}
 use Rattle.line_receiver.specs.declared.Stepped.{Stepped}
 use Rattle.line_receiver.specs.States.{in_range}
-use Rattle.line_receiver.specs.Calls.{whole, accepts, judged_as, listening, by_phase, stepped, padded}
+use Rattle.line_receiver.specs.Calls.{whole, accepts, judged_as, listening, by_phase, stepped}
 use Rattle.line_receiver.specs.Runs.{sent_by, sent, all_asked}
 use Rattle.line_receiver.proofs.Asked.{asked_counted, fifteen}
 use Rattle.line_receiver.proofs.Fifteens.{take_short}
 use Rattle.links_hearing.specs.declared.ears.Ear.TheVariants.{Modem as modem}
-use Rattle.links.specs.Runs.{Call, value}
-use Rattle.board_feeding.specs.Feeding.{from_line, got}
+use Rattle.links.specs.Runs.{value}
+use Rattle.board_feeding.specs.Feeding.{from_line}
 use Rattle.board_feeding.proofs.Suffices.{few_got}
 use Rattle.board_front.specs.declared.Front.{Front}
 use Rattle.board_front.specs.declared.Room.{Room}
-use Rattle.board_front.specs.LineBytes.{bytes, calls, to_each, asks}
+use Rattle.board_front.specs.LineBytes.{bytes, calls, to_each}
 use Rattle.board_front.specs.Fitting.{within, needed}
 use Rattle.board_front.proofs.Rooms.{passes}
 use Rattle.board_front.specs.Ample.{Ample}
@@ -62,7 +62,7 @@ judged_bounded : (v : Verdict) (r : Receiver) (vs : List ℕ) → length vs ≤ 
     → Bounded r (judged_as v r.number vs)
 judged_bounded v r vs h k =
     chosen (Bounded r) (accepts v)
-    (λ a. let l = take_short (length vs) (padded 15 vs) in omega (arith, l, h, k)) (λ a. omega (arith, k))
+    (λ a. let l = take_short (length vs) (vs ++ replicate (15 - length vs) 0) in omega (arith, l, h, k)) (λ a. omega (arith, k))
 
 phase_bounded : (p : Phase) (r : Receiver) (b : ℕ) → r.phase ≡ p → Bounded r (by_phase p r b)
 phase_bounded Off r b e = omega arith

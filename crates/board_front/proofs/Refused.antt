@@ -2,10 +2,10 @@
 use mathlib.Core.Path.{◌≡◌, refl, ap}
 use mathlib.Core.Bool.{false}
 use Prim.Native.Nat.{ℕ}
-use lib.ListN.{take}
 use Rattle.line_receiver.specs.States.{in_range as receiver_in_range}
 use Rattle.line_receiver.specs.Calls.{refused, stepped}
 use Rattle.links.specs.States.{in_range as links_in_range}
+use Rattle.few.specs.Bytes.{contents}
 use Rattle.board_feeding.specs.declared.Fed.{Fed}
 use Rattle.board_feeding.specs.Feeding.{got, nobody, fed}
 use Rattle.board_feeding.proofs.Refused.{broken_fed}
@@ -27,5 +27,5 @@ pub broken_links : (f : Front) (x : ℕ) → links_in_range f.links ≡ false
 unfolding heard_by
 broken_links f x i =
     let s = stepped f.receiver x in
-    let e = broken_fed f.links i (take s.passed s.values) in
+    let e = broken_fed f.links i (contents s.values) in
     (ap (λ (g : Fed). g.links) e, ap (λ (g : Fed). g.shares) e, refl)

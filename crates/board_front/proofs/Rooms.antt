@@ -1,6 +1,6 @@
 -- Room: what is needed is there exactly where each output has enough. Assumes nothing.
 use mathlib.Core.Path.{◌≡◌, refl, sym, ap, ◌∙◌, subst}
-use mathlib.Core.Bool.{Bool, true, false, ◌&&◌, cond}
+use mathlib.Core.Bool.{Bool, true, false, ◌&&◌}
 use mathlib.Core.List.{List, ◌++◌}
 use Prim.Native.Nat.{ℕ, ◌+◌, ◌≤◌, ◌<◌}
 use native.Mathlib.Omega.{arith}
@@ -15,8 +15,7 @@ use Rattle.links_wiring.specs.declared.Module.{Module}
 use Rattle.links_wiring.specs.declared.Module.TheVariants.{Keyboard, Modem, Socket}
 use Rattle.board_front.specs.declared.Front.{Front}
 use Rattle.board_front.specs.declared.Room.{Room}
-use Rattle.board_front.specs.declared.fitting.Left.{Left}
-use Rattle.board_front.specs.declared.fitting.Left.TheVariants.{Enough, Short}
+use Rattle.std.specs.Prelude.{Some, None}
 use Rattle.board_front.specs.LineBytes.{heard_by, behind, to_each, asks}
 use Rattle.board_front.specs.Fitting.{within, needed, needs_of, more, less, left_over}
 use Rattle.board_front.proofs.Onwards.{each_append, asks_append, brings, requests, each_one, asks_one}
@@ -87,7 +86,7 @@ one_more f xs i h =
     let each : (m : Module)
     → length (to_each m f (take (i + 1) xs)) ≡ length (to_each m f (take i xs)) + length (brings m g x) =
     λ m. ap length (each_one f xs i h m) ∙ length-append (to_each m f (take i xs)) (brings m g x) in
-    let q : length (asks f (take (i + 1) xs)) ≡ length (asks f (take i xs)) + (stepped g.receiver x).asked =
+    let q : length (asks f (take (i + 1) xs)) ≡ length (asks f (take i xs)) + (stepped g.receiver x).request.count =
     ap length (asks_one f xs i h) ∙ length-append (asks f (take i xs)) (requests g x)
     ∙ ap (λ (n : ℕ). length (asks f (take i xs)) + n) (asked_counted g.receiver x).1 in
     simp (each Keyboard, each Modem, each Socket, q)
@@ -120,32 +119,20 @@ module _ {r left n d : Room} (s : Spent r left n) where
 
 -- ---- what is left over
 
-is_enough : Left → Bool
-is_enough (Enough r) = true
-is_enough Short = false
-
-rest_of : Left → Room → Room
-rest_of (Enough r) d = r
-rest_of Short d = d
-
-by_test : (r n : Room) (t : Bool) → within n r ≡ t → left_over r n ≡ cond t (Enough (less r n)) Short
+pub enough : (r n rest : Room) → left_over r n ≡ Some rest → (within n r ≡ true) × (rest ≡ less r n)
 unfolding left_over
-by_test r n t w = ap (λ (u : Bool). cond u (Enough (less r n)) Short) w
-
-pub enough : (r n rest : Room) → left_over r n ≡ Enough rest → (within n r ≡ true) × (rest ≡ less r n)
-unfolding is_enough rest_of
 enough r n rest e = go (within n r) refl
   where
     go : (t : Bool) → within n r ≡ t → (within n r ≡ true) × (rest ≡ less r n)
-    go true w = (w, sym (ap (λ (l : Left). rest_of l r) (sym (by_test r n true w) ∙ e)))
-    go false w = absurd (fails (sym (ap is_enough (sym (by_test r n false w) ∙ e))) tt)
+    go true w = (w, cc)
+    go false w = cc
 
-pub short : (r n : Room) → left_over r n ≡ Short → within n r ≡ false
-unfolding is_enough
+pub short : (r n : Room) → left_over r n ≡ None → within n r ≡ false
+unfolding left_over
 short r n e = go (within n r) refl
   where
     go : (t : Bool) → within n r ≡ t → within n r ≡ false
-    go true w = absurd (fails (ap is_enough (sym (by_test r n true w) ∙ e)) tt)
+    go true w = cc
     go false w = w
 
 -- ---- the whole piece

@@ -1,11 +1,9 @@
 -- The room that line bytes take in the four outputs. Assumes nothing.
-use Rattle.std.specs.Prelude.{Bool, cond, ◌&&◌, List, ℕ, ◌+◌, ◌-◌, leb, length}
+use Rattle.std.specs.Prelude.{Bool, cond, ◌&&◌, Option, Some, None, List, ℕ, ◌+◌, ◌-◌, leb, length}
 use Rattle.links_wiring.specs.declared.Module.TheVariants.{Keyboard, Modem, Socket}
 use Rattle.board_front.specs.declared.Front.{Front}
 use Rattle.board_front.specs.declared.Heard.{Heard}
 use Rattle.board_front.specs.declared.Room.{Room}
-use Rattle.board_front.specs.declared.fitting.Left.{Left}
-use Rattle.board_front.specs.declared.fitting.Left.TheVariants.{Enough, Short}
 use Rattle.board_front.specs.LineBytes.{to_each, asks}
 
 abbrev pub room_in : List ℕ → List ℕ → List ℕ → List ℕ → Room
@@ -28,7 +26,7 @@ needs_of h =
       keyboard = h.shares.keyboard.count;
       modem = h.shares.modem.count;
       socket = h.shares.socket.count;
-      requests = h.asked;
+      requests = h.request.count;
     }
 
 abbrev pub more : Room → Room → Room
@@ -49,5 +47,5 @@ less r n =
       requests = r.requests - n.requests;
     }
 
-unfoldable pub left_over : Room → Room → Left
-left_over r n = cond (within n r) (Enough (less r n)) Short
+unfoldable pub left_over : Room → Room → Option Room
+left_over r n = cond (within n r) (Some (less r n)) None

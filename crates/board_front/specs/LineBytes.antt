@@ -1,5 +1,6 @@
 -- Line bytes heard by the receiver and the links behind it (01, "What the board does"). Assumes nothing.
-use Rattle.std.specs.Prelude.{List, [], ◌∷◌, ◌++◌, map, ℕ, take, replicate}
+use Rattle.std.specs.Prelude.{List, [], ◌∷◌, ◌++◌, map, ℕ}
+use Rattle.few.specs.Bytes.{few, contents}
 use Rattle.links_wiring.specs.declared.Module.{Module}
 use Rattle.line_receiver.specs.declared.Receiver.{Receiver}
 use Rattle.line_receiver.specs.declared.Stepped.{Stepped}
@@ -14,12 +15,11 @@ use Rattle.board_front.specs.declared.Heard.{Heard}
 -- what the receiver hands out: its values go through the links as the modem's, and its request out
 abbrev pub sent_on : Links → Stepped → Heard
 sent_on l s =
-    let g = fed l (take s.passed s.values) in
+    let g = fed l (contents s.values) in
     record {
       front = record { receiver = s.next; links = g.links };
       shares = g.shares;
       request = s.request;
-      asked = s.asked;
     }
 
 -- one byte
@@ -28,7 +28,7 @@ heard_by f x = sent_on f.links (stepped f.receiver x)
 
 -- nothing is heard: the receiver and the links as they were, and nothing for anybody
 abbrev pub unheard : Front → Heard
-unheard f = record { front = f; shares = nobody; request = replicate 2 0; asked = 0 }
+unheard f = record { front = f; shares = nobody; request = few 2 [] }
 
 -- ---- many bytes
 

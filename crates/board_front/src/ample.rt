@@ -9,22 +9,15 @@ fn is_long(n: usize, room: usize) -> bool
     ensures { result ≡ true → 5 * (n + 16) ≤ «room» }
 {
     let most = room / 5;
-    if most < 16 {
-        return false;
-    }
-    n <= most - 16
+    16 <= most && n <= most - 16
 }
 
 // Whether any n bytes fit.
 pub(crate) fn is_ample(n: usize, room: Room) -> bool
     ensures { result ≡ true → Ample n «room» }
 {
-    if is_long(n, room.keyboard) {
-        if is_long(n, room.modem) {
-            if is_long(n, room.socket) {
-                return n <= room.requests / 2;
-            }
-        }
-    }
-    false
+    is_long(n, room.keyboard)
+        && is_long(n, room.modem)
+        && is_long(n, room.socket)
+        && n <= room.requests / 2
 }

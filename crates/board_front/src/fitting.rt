@@ -5,47 +5,29 @@ ghost use Rattle.board_front.specs.Fitting.{within, needed, needs_of, left_over}
 use crate::ample::is_ample;
 use crate::{Front, Heard, Room, hear};
 
-// What is left of the room behind a byte.
-#[derive(Clone, Copy)]
-pub(crate) enum Left {
-    Enough(Room),
-    Short,
-}
-
 // The room that one byte takes.
 fn needs(heard: Heard) -> Room
     ensures { result ≡ needs_of heard }
 {
-    let shares = heard.shares;
-    let keyboard = shares.keyboard;
-    let modem = shares.modem;
-    let socket = shares.socket;
     Room {
-        keyboard: keyboard.count,
-        modem: modem.count,
-        socket: socket.count,
-        requests: heard.asked,
+        keyboard: heard.shares.keyboard.count,
+        modem: heard.shares.modem.count,
+        socket: heard.shares.socket.count,
+        requests: heard.request.count,
     }
 }
 
-fn spend(room: Room, need: Room) -> Left
+// What is left of the room behind a byte, where it suffices.
+#[tactic(auto, unfolding(crate::specs::Fitting::left_over))]
+fn spend(room: Room, need: Room) -> Option<Room>
     ensures { result ≡ left_over «room» need }
 {
-    if need.keyboard <= room.keyboard {
-        if need.modem <= room.modem {
-            if need.socket <= room.socket {
-                if need.requests <= room.requests {
-                    return Left::Enough(Room {
-                        keyboard: room.keyboard - need.keyboard,
-                        modem: room.modem - need.modem,
-                        socket: room.socket - need.socket,
-                        requests: room.requests - need.requests,
-                    });
-                }
-            }
-        }
-    }
-    Left::Short
+    Some(Room {
+        keyboard: room.keyboard.checked_sub(need.keyboard)?,
+        modem: room.modem.checked_sub(need.modem)?,
+        socket: room.socket.checked_sub(need.socket)?,
+        requests: room.requests.checked_sub(need.requests)?,
+    })
 }
 
 // The piece is heard, byte by byte.
@@ -54,18 +36,13 @@ fn fits_as_heard(start: Front, piece: &[u8], room: Room) -> bool
 {
     let mut front = start;
     let mut left = room;
-    let mut i: usize = 0;
-    while i < piece.len() {
-        let heard = hear(front, piece[i]);
-        let spent = spend(left, needs(heard));
-        match spent {
-            Left::Enough(rest) => {
-                left = rest;
-            }
-            Left::Short => return false,
-        }
+    for byte in piece {
+        let heard = hear(front, *byte);
+        let Some(rest) = spend(left, needs(heard)) else {
+            return false;
+        };
+        left = rest;
         front = heard.front;
-        i += 1;
     }
     true
 }
@@ -75,11 +52,5 @@ fn fits_as_heard(start: Front, piece: &[u8], room: Room) -> bool
 pub fn fits(start: Front, piece: &[u8], room: Room) -> bool
     ensures { result ≡ within (needed «start» piece.now) «room» }
 {
-    let receiver = start.receiver;
-    if receiver.count <= 16 {
-        if is_ample(piece.len(), room) {
-            return true;
-        }
-    }
-    fits_as_heard(start, piece, room)
+    (start.receiver.count <= 16 && is_ample(piece.len(), room)) || fits_as_heard(start, piece, room)
 }

@@ -6,14 +6,16 @@
 // proofs/Onwards shows what one byte more brings, proofs/Rooms when there is room, and proofs/Amply that there is.
 #![tactic(auto)]
 
-ghost use Rattle.std.specs.Prelude.{◌≡◌, ◌≤◌};
+ghost use Rattle.std.specs.Prelude.{◌≡◌, ◌≤◌, []};
 ghost use Rattle.board_feeding.specs.Feeding.{Enough};
+ghost use Rattle.board_front.specs.Fitting.{room_in};
 ghost use Rattle.board_front.specs.LineBytes.{sent_on, heard_by};
 
 mod ample;
 mod fitting;
 
 use board_feeding::Shares;
+use few::Few;
 pub use fitting::fits;
 use line_receiver::{Receiver, Stepped};
 use links::Links;
@@ -29,11 +31,13 @@ pub struct Front {
 pub struct Heard {
     pub front: Front,
     pub shares: Shares,
-    pub request: [u8; 2],
-    pub asked: usize,
+    pub request: Few<2>,
 }
 
 // Bytes for each output: those that there is room for, or those written.
+//
+// It and the lent outputs (`Outputs` of the crate `board_passing`) are no one generic type: no function does the same with
+// both, since numbers are compared and taken off, and lent bytes written, so that the names of four fields would be all.
 #[derive(Clone, Copy)]
 pub struct Room {
     pub keyboard: usize,
@@ -42,23 +46,33 @@ pub struct Room {
     pub requests: usize,
 }
 
+impl Room {
+    // No byte in any output.
+    pub fn none() -> Room
+        ensures { result ≡ room_in [] [] [] [] }
+    {
+        Room {
+            keyboard: 0,
+            modem: 0,
+            socket: 0,
+            requests: 0,
+        }
+    }
+}
+
 // What the receiver hands out goes its way: its values through the links as the modem's, its request out. Broken links
 // take no value, so that nobody gets anything.
 pub fn send_on(links: Links, stepped: Stepped) -> Heard
     ensures { (result ≡ sent_on links stepped) × Enough result.shares }
 {
-    let values = stepped.values;
-    let fed = board_feeding::feed(links, values, stepped.passed);
-    let shares = fed.shares;
-    let request = stepped.request;
-    let receiver = stepped.next;
-    let links = fed.links;
-    let front = Front { receiver, links };
+    let fed = board_feeding::feed(links, stepped.values);
     Heard {
-        front,
-        shares,
-        request,
-        asked: stepped.asked,
+        front: Front {
+            receiver: stepped.next,
+            links: fed.links,
+        },
+        shares: fed.shares,
+        request: stepped.request,
     }
 }
 
@@ -67,8 +81,7 @@ pub fn send_on(links: Links, stepped: Stepped) -> Heard
 // Broken links take no value, so that nobody gets anything, while the receiver goes on. It passes on no value above
 // 127.
 pub fn hear(front: Front, byte: u8) -> Heard
-    ensures { (result ≡ heard_by «front» byte) × Enough result.shares × (result.asked ≤ 2) }
+    ensures { (result ≡ heard_by «front» byte) × Enough result.shares × (result.request.count ≤ 2) }
 {
-    let receiver = front.receiver;
-    send_on(front.links, receiver.step(byte))
+    send_on(front.links, front.receiver.step(byte))
 }

@@ -1,13 +1,13 @@
 -- What each module gets of some values, whether they are plain or go through the links one by one. Assumes nothing.
-use mathlib.Core.Path.{◌≡◌, refl, sym, ap, ap₂, ◌∙◌}
+use mathlib.Core.Path.{◌≡◌, sym, ap, ap₂, ◌∙◌}
 use mathlib.Core.Bool.{true, cond}
 use mathlib.Core.List.{List, [], ◌∷◌, ◌++◌, map-append}
-use Prim.Native.Nat.{ℕ, zero, suc, ◌+◌, ◌<◌}
+use Prim.Native.Nat.{ℕ, ◌+◌, ◌<◌}
 use native.Mathlib.Numerals.{add-one, unary_clauses}
 use lib.ListN.{length, take, get_or}
 use lib.Seq.{take-suc}
 use Rattle.lent.specs.Memory.{written, behind}
-use Rattle.lent.proofs.Behind.{length_written, none_written, twice, behind_twice}
+use Rattle.lent.proofs.Behind.{none_written, twice, behind_twice}
 use Rattle.links_wiring.specs.declared.Module.{Module}
 use Rattle.links_wiring.specs.declared.Module.TheVariants.{Screen, Keyboard, Modem, Socket}
 use Rattle.links_wiring.specs.Tables.{reaches}
@@ -15,20 +15,15 @@ use Rattle.links_hearing.specs.declared.ears.Ear.TheVariants.{Modem as modem}
 use Rattle.links.specs.declared.Links.{Links}
 use Rattle.links.specs.Runs.{value, run}
 use Rattle.board_feeding.specs.declared.Fed.{Fed}
-use Rattle.board_feeding.specs.Feeding.{from_line, got, contents, fed}
+use Rattle.few.specs.Bytes.{contents}
+use Rattle.board_feeding.specs.Feeding.{from_line, got, fed}
 use Rattle.board_feeding.specs.Plain.{are_plain}
-use Rattle.board_feeding.proofs.Outlets.{held}
+use Rattle.few.proofs.Kept.{kept}
 use Rattle.board_feeding.proofs.Passed.{links_stay, as_they_are}
 use Rattle.board_feeding.proofs.Suffices.{run_append, got_append}
 use Rattle.board_front.specs.declared.Room.{Room}
 use Rattle.board_passing.specs.declared.Onward.{Onward}
 use Rattle.board_passing.specs.Passing.{Outs, outs, sent_all, written_all, behind_all, onward, handed_out}
-
--- the first n, of as many as there are
-pub as_many : (n : ℕ) (vs : List ℕ) → take (length (take n vs)) vs ≡ take n vs
-as_many zero vs = refl
-as_many (suc n) [] = refl
-as_many (suc n) (v ∷ vs) = ap (λ (ws : List ℕ). v ∷ ws) (as_many n vs)
 
 -- these are sent, behind these links
 module _ (l : Links) (vs : List ℕ) (g : ℕ) (u : Room) (o : Outs) {k : Links} {w : Outs}
@@ -70,10 +65,10 @@ module _ (l : Links) (vs : List ℕ) (f : Fed) (e : f ≡ fed l vs) where
       (contents w.shares.socket))
       e
       ∙ simp (
-        held (got Screen l (from_line vs)),
-        held (got Keyboard l (from_line vs)),
-        held (got Modem l (from_line vs)),
-        held (got Socket l (from_line vs)),
+        kept 75 (got Screen l (from_line vs)),
+        kept 75 (got Keyboard l (from_line vs)),
+        kept 75 (got Modem l (from_line vs)),
+        kept 75 (got Socket l (from_line vs)),
       )
 
   pub fed_links : f.links ≡ run l (from_line vs)
@@ -166,22 +161,3 @@ module _ (l : Links) (vs : List ℕ) (i : ℕ) (less : i < length vs) (g : ℕ) 
   one_handed =
       ap₂ (λ (q : Onward) (w : Outs). handed_out q.links (v ∷ []) q.gathered q.used w) so_far out
       ∙ handed_more l (take i vs) (v ∷ []) g u o ∙ ap (λ (ws : List ℕ). handed_out l ws g u o) next
-
--- ---- an output stays as long as it was
-
-pub record Long (w o : Outs) : Type 0 where
-  pub screen : length w.screen ≡ length o.screen
-  pub keyboard : length w.keyboard ≡ length o.keyboard
-  pub modem : length w.modem ≡ length o.modem
-  pub socket : length w.socket ≡ length o.socket
-
-pub as_long : (l : Links) (vs : List ℕ) (g : ℕ) (u : Room) (o : Outs) {w : Outs} → w ≡ handed_out l vs g u o → Long w o
-unfolding handed_out
-as_long l vs g u o e =
-    let s = sent_all l vs in
-    record {
-      screen = ap (λ (x : Outs). length x.screen) e ∙ length_written o.screen g s.screen;
-      keyboard = ap (λ (x : Outs). length x.keyboard) e ∙ length_written o.keyboard u.keyboard s.keyboard;
-      modem = ap (λ (x : Outs). length x.modem) e ∙ length_written o.modem u.modem s.modem;
-      socket = ap (λ (x : Outs). length x.socket) e ∙ length_written o.socket u.socket s.socket;
-    }

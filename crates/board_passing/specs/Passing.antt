@@ -1,22 +1,37 @@
 -- Values handed to the links as the modem's, and what each module gets of them written to its output. Assumes nothing.
-use Rattle.std.specs.Prelude.{List, ℕ}
+use Rattle.std.specs.Prelude.{◌≡◌, List, ℕ}
 use Rattle.lent.specs.Memory.{written, behind}
+use Rattle.links_wiring.specs.declared.Each.{Each}
 use Rattle.links_wiring.specs.declared.Module.TheVariants.{Screen, Keyboard, Modem, Socket}
 use Rattle.links.specs.declared.Links.{Links}
 use Rattle.links.specs.Runs.{run}
 use Rattle.board_feeding.specs.Feeding.{from_line, got}
 use Rattle.board_front.specs.declared.Room.{Room}
+use Rattle.board_front.specs.Fitting.{room_in}
 use Rattle.board_passing.specs.declared.Onward.{Onward}
+use Rattle.board_passing.specs.declared.Outputs.{Outputs}
 
 -- bytes for each module, or its output: what is gathered for the screen, and the others'
-pub record Outs : Type 0 where
-  pub screen : List ℕ
-  pub keyboard : List ℕ
-  pub modem : List ℕ
-  pub socket : List ℕ
+abbrev pub Outs : Type 0
+Outs = Each (List ℕ)
 
 abbrev pub outs : List ℕ → List ℕ → List ℕ → List ℕ → Outs
 outs g k m s = record { screen = g; keyboard = k; modem = m; socket = s }
+
+-- what is gathered for the screen, and what the lent outputs hold
+abbrev pub held : List ℕ → Outputs → Outs
+held g o = outs g o.keyboard.now o.modem.now o.socket.now
+
+-- the room in each of the four
+abbrev pub room_of : Outputs → Room
+room_of o = room_in o.keyboard.now o.modem.now o.socket.now o.requests.now
+
+-- the same outputs are lent
+pub record SameOutputs (o p : Outputs) : Type 0 where
+  pub keyboard : p.keyboard.ghost_name ≡ o.keyboard.ghost_name
+  pub modem : p.modem.ghost_name ≡ o.modem.ghost_name
+  pub socket : p.socket.ghost_name ≡ o.socket.ghost_name
+  pub requests : p.requests.ghost_name ≡ o.requests.ghost_name
 
 -- what each gets of some values
 abbrev pub sent_all : Links → List ℕ → Outs

@@ -5,15 +5,15 @@
 // specs/Passing says what comes of values; proofs/Spread shows that one after the other they come to that.
 #![tactic(auto)]
 
-ghost use Rattle.std.specs.Prelude.{◌≡◌, true, cond, [], ◌∷◌, ◌≤◌, take};
+ghost use Rattle.std.specs.Prelude.{◌≡◌, true, cond, [], ◌∷◌};
+ghost use Rattle.few.specs.Bytes.{contents};
 ghost use Rattle.lent.specs.Memory.{written, behind};
-ghost use Rattle.board_feeding.specs.Feeding.{contents};
 ghost use Rattle.board_feeding.specs.Plain.{are_plain};
-ghost use Rattle.board_passing.specs.Passing.{outs, onward, handed_out};
+ghost use Rattle.board_passing.specs.Passing.{onward, handed_out, held, room_of, SameOutputs};
 
-use board_feeding::Outlet;
 use board_front::Room;
-use lent::{add, first};
+use few::Few;
+use lent::add;
 use links::Links;
 
 // The links behind some values, and the places behind what is written: for the screen, and in each output.
@@ -24,197 +24,120 @@ pub struct Onward {
     pub used: Room,
 }
 
+// The outputs that are lent: those of keyboard, modem and socket, and that of the receiver's requests.
+#[derive(Drop)]
+pub struct Outputs<'a> {
+    pub keyboard: &'a mut [u8],
+    pub modem: &'a mut [u8],
+    pub socket: &'a mut [u8],
+    pub requests: &'a mut [u8],
+}
+
 // Plain values for a module that is reached; another gets nothing.
 fn put_where(reached: bool, out: &mut [u8], at: usize, values: &[u8]) -> usize
     ensures value { result ≡ behind out.old at (cond reached values.now []) }
     ensures left { out.new ≡ written out.old at (cond reached values.now []) }
 {
-    if reached {
-        return add(values, out, at);
-    }
-    at
+    if reached { add(values, out, at) } else { at }
 }
 
-// What a module gets through the links.
-fn put_share(out: &mut [u8], at: usize, share: Outlet) -> usize
-    ensures value { result ≡ behind out.old at (contents share) }
-    ensures left { out.new ≡ written out.old at (contents share) }
-{
-    let codes = share.codes;
-    add(first(&codes, share.count), out, at)
-}
-
-// Plain values: each module that the modem reaches gets them as they are.
-fn pass_plain(
-    links: Links,
-    values: [u8; 15],
-    passed: usize,
-    filled: usize,
-    used: Room,
-    gathered: &mut [u8],
-    keyboard: &mut [u8],
-    modem: &mut [u8],
-    socket: &mut [u8],
-) -> Onward
-    requires { are_plain links values ≡ true }
-    ensures value { result ≡ onward links (take passed values) filled used
-        (outs gathered.old keyboard.old modem.old socket.old) }
-    ensures left { outs gathered.new keyboard.new modem.new socket.new
-        ≡ handed_out links (take passed values) filled used
-        (outs gathered.old keyboard.old modem.old socket.old) }
-{
-    let row = links.table.modem;
-    let plain = first(&values, passed);
-    let shown = put_where(row.screen, gathered, filled, plain);
-    let keys = put_where(row.keyboard, keyboard, used.keyboard, plain);
-    let line = put_where(row.modem, modem, used.modem, plain);
-    let port = put_where(row.socket, socket, used.socket, plain);
-    Onward {
-        links,
-        gathered: shown,
-        used: Room {
-            keyboard: keys,
-            modem: line,
-            socket: port,
-            requests: used.requests,
-        },
+impl Outputs<'_> {
+    // The room in each.
+    pub fn room(&self) -> Room
+        ensures { result ≡ room_of self.now }
+    {
+        Room {
+            keyboard: self.keyboard.len(),
+            modem: self.modem.len(),
+            socket: self.socket.len(),
+            requests: self.requests.len(),
+        }
     }
-}
 
-// Any values: they go through the links.
-fn pass_fed(
-    links: Links,
-    values: [u8; 15],
-    passed: usize,
-    filled: usize,
-    used: Room,
-    gathered: &mut [u8],
-    keyboard: &mut [u8],
-    modem: &mut [u8],
-    socket: &mut [u8],
-) -> Onward
-    ensures value { result ≡ onward links (take passed values) filled used
-        (outs gathered.old keyboard.old modem.old socket.old) }
-    ensures left { outs gathered.new keyboard.new modem.new socket.new
-        ≡ handed_out links (take passed values) filled used
-        (outs gathered.old keyboard.old modem.old socket.old) }
-{
-    let fed = board_feeding::feed(links, values, passed);
-    let shares = fed.shares;
-    let shown = put_share(gathered, filled, shares.screen);
-    let keys = put_share(keyboard, used.keyboard, shares.keyboard);
-    let line = put_share(modem, used.modem, shares.modem);
-    let port = put_share(socket, used.socket, shares.socket);
-    let links = fed.links;
-    Onward {
-        links,
-        gathered: shown,
-        used: Room {
-            keyboard: keys,
-            modem: line,
-            socket: port,
-            requests: used.requests,
-        },
+    // Plain values: each module that the modem reaches gets them as they are.
+    fn pass_plain(&mut self, gathered: &mut [u8], at: Onward, values: Few<15>) -> Onward
+        requires { are_plain at.links values.codes ≡ true }
+        ensures value { result ≡ onward at.links (contents values) at.gathered at.used (held gathered.old self.old) }
+        ensures left { held gathered.new self.new ≡ handed_out at.links (contents values) at.gathered at.used (held gathered.old self.old) }
+        ensures same { SameOutputs self.old self.new }
+        ensures unasked { self.new.requests.now ≡ self.old.requests.now }
+    {
+        let row = at.links.table.modem;
+        let plain = values.bytes();
+        Onward {
+            gathered: put_where(row.screen, gathered, at.gathered, plain),
+            used: Room {
+                keyboard: put_where(row.keyboard, self.keyboard, at.used.keyboard, plain),
+                modem: put_where(row.modem, self.modem, at.used.modem, plain),
+                socket: put_where(row.socket, self.socket, at.used.socket, plain),
+                ..at.used
+            },
+            ..at
+        }
     }
-}
 
-// One value, plain or not.
-fn pass_one(
-    links: Links,
-    value: u8,
-    filled: usize,
-    used: Room,
-    gathered: &mut [u8],
-    keyboard: &mut [u8],
-    modem: &mut [u8],
-    socket: &mut [u8],
-) -> Onward
-    ensures value { result ≡ onward links (value ∷ []) filled used
-        (outs gathered.old keyboard.old modem.old socket.old) }
-    ensures left { outs gathered.new keyboard.new modem.new socket.new
-        ≡ handed_out links (value ∷ []) filled used
-        (outs gathered.old keyboard.old modem.old socket.old) }
-{
-    let mut one = [0u8; 15];
-    one[0] = value;
-    if board_feeding::are_plain(links, one) {
-        return pass_plain(
-            links, one, 1, filled, used, gathered, keyboard, modem, socket,
-        );
+    // Any values: they go through the links.
+    fn pass_fed(&mut self, gathered: &mut [u8], at: Onward, values: Few<15>) -> Onward
+        ensures value { result ≡ onward at.links (contents values) at.gathered at.used (held gathered.old self.old) }
+        ensures left { held gathered.new self.new ≡ handed_out at.links (contents values) at.gathered at.used (held gathered.old self.old) }
+        ensures same { SameOutputs self.old self.new }
+        ensures unasked { self.new.requests.now ≡ self.old.requests.now }
+    {
+        let fed = board_feeding::feed(at.links, values);
+        Onward {
+            links: fed.links,
+            gathered: add(fed.shares.screen.bytes(), gathered, at.gathered),
+            used: Room {
+                keyboard: add(fed.shares.keyboard.bytes(), self.keyboard, at.used.keyboard),
+                modem: add(fed.shares.modem.bytes(), self.modem, at.used.modem),
+                socket: add(fed.shares.socket.bytes(), self.socket, at.used.socket),
+                ..at.used
+            },
+        }
     }
-    pass_fed(
-        links, one, 1, filled, used, gathered, keyboard, modem, socket,
-    )
-}
 
-// The first `passed` values, one after the other.
-fn pass_each(
-    links: Links,
-    values: [u8; 15],
-    passed: usize,
-    filled: usize,
-    used: Room,
-    gathered: &mut [u8],
-    keyboard: &mut [u8],
-    modem: &mut [u8],
-    socket: &mut [u8],
-) -> Onward
-    requires { passed ≤ 15 }
-    ensures value { result ≡ onward links (take passed values) filled used
-        (outs gathered.old keyboard.old modem.old socket.old) }
-    ensures left { outs gathered.new keyboard.new modem.new socket.new
-        ≡ handed_out links (take passed values) filled used
-        (outs gathered.old keyboard.old modem.old socket.old) }
-{
-    let mut state = Onward {
-        links,
-        gathered: filled,
-        used,
-    };
-    let mut i: usize = 0;
-    while i < passed {
-        state = pass_one(
-            state.links,
-            values[i],
-            state.gathered,
-            state.used,
-            gathered,
-            keyboard,
-            modem,
-            socket,
-        );
-        i += 1;
+    // One value, plain or not.
+    fn pass_one(&mut self, gathered: &mut [u8], at: Onward, value: u8) -> Onward
+        ensures value { result ≡ onward at.links (value ∷ []) at.gathered at.used (held gathered.old self.old) }
+        ensures left { held gathered.new self.new ≡ handed_out at.links (value ∷ []) at.gathered at.used (held gathered.old self.old) }
+        ensures same { SameOutputs self.old self.new }
+        ensures unasked { self.new.requests.now ≡ self.old.requests.now }
+    {
+        let one = Few::of(&[value]);
+        if board_feeding::are_plain(at.links, one.codes) {
+            self.pass_plain(gathered, at, one)
+        } else {
+            self.pass_fed(gathered, at, one)
+        }
     }
-    state
-}
 
-// The first `passed` values, of fifteen at most: in one go where all are plain, and else one after the other, since of
-// a block with a colour or a place in it most values are plain too. It gives no number: broken links take no value, and
-// nobody gets anything.
-pub fn pass_on(
-    links: Links,
-    values: [u8; 15],
-    passed: usize,
-    filled: usize,
-    used: Room,
-    gathered: &mut [u8],
-    keyboard: &mut [u8],
-    modem: &mut [u8],
-    socket: &mut [u8],
-) -> Onward
-    ensures value { result ≡ onward links (take passed values) filled used
-        (outs gathered.old keyboard.old modem.old socket.old) }
-    ensures left { outs gathered.new keyboard.new modem.new socket.new
-        ≡ handed_out links (take passed values) filled used
-        (outs gathered.old keyboard.old modem.old socket.old) }
-{
-    if board_feeding::are_plain(links, values) {
-        return pass_plain(
-            links, values, passed, filled, used, gathered, keyboard, modem, socket,
-        );
+    // Some values, one after the other.
+    fn pass_each(&mut self, gathered: &mut [u8], at: Onward, values: &[u8]) -> Onward
+        ensures value { result ≡ onward at.links values.now at.gathered at.used (held gathered.old self.old) }
+        ensures left { held gathered.new self.new ≡ handed_out at.links values.now at.gathered at.used (held gathered.old self.old) }
+        ensures same { SameOutputs self.old self.new }
+        ensures unasked { self.new.requests.now ≡ self.old.requests.now }
+    {
+        let mut state = at;
+        for value in values {
+            state = self.pass_one(gathered, state, *value);
+        }
+        state
     }
-    let there = first(&values, passed).len();
-    pass_each(
-        links, values, there, filled, used, gathered, keyboard, modem, socket,
-    )
+
+    // Values, of fifteen at most: in one go where all are plain, and else one after the other, since of
+    // a block with a colour or a place in it most values are plain too. It gives no number: broken links take no value, and
+    // nobody gets anything.
+    pub fn pass_on(&mut self, gathered: &mut [u8], at: Onward, values: Few<15>) -> Onward
+        ensures value { result ≡ onward at.links (contents values) at.gathered at.used (held gathered.old self.old) }
+        ensures left { held gathered.new self.new ≡ handed_out at.links (contents values) at.gathered at.used (held gathered.old self.old) }
+        ensures same { SameOutputs self.old self.new }
+        ensures unasked { self.new.requests.now ≡ self.old.requests.now }
+    {
+        if board_feeding::are_plain(at.links, values.codes) {
+            self.pass_plain(gathered, at, values)
+        } else {
+            self.pass_each(gathered, at, values.bytes())
+        }
+    }
 }

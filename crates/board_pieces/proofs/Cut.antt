@@ -2,7 +2,7 @@
 use mathlib.Core.Path.{◌≡◌, sym, ap, ap₂, ◌∙◌}
 use mathlib.Core.Bool.{Bool, true}
 use mathlib.Core.List.{List, ◌++◌, append_assoc}
-use Prim.Native.Nat.{ℕ, ◌+◌, ◌-◌}
+use Prim.Native.Nat.{ℕ, ◌+◌}
 use native.Mathlib.Omega.{arith}
 use lib.ListN.{length, drop, length-append}
 use lib.Seq.{take-append_seam, drop-append_seam, drop-drop}
@@ -13,7 +13,7 @@ use Rattle.board.specs.declared.Board.{Board}
 use Rattle.board.specs.Runs.{run, Outside, InBoard}
 use Rattle.board.proofs.Ranges.{tested}
 use Rattle.board.proofs.Parts.{apart}
-use Rattle.board_pieces.specs.declared.Answer.TheVariants.{Taken}
+use Rattle.std.specs.Prelude.{Ok}
 use Rattle.board_pieces.specs.declared.Passage.{Passage}
 use Rattle.board_pieces.specs.Pieces.{singly, handed, asked, yields, passage, lines_of, is_taken, left_in}
 use Rattle.board_pieces.specs.Claims.{wrote, RoomFor}
@@ -51,7 +51,7 @@ module _ (b : Board) (i : InBoard b) (xs ys : List ℕ) (r : Room) where
 
   -- the room behind what the first call wrote
   abbrev rest : Room
-  rest = behind_it (passage c Taken (yields b xs)) r
+  rest = behind_it (passage c (Ok tt) (yields b xs)) r
 
   module _ (e : is_taken b (xs ++ ys) r ≡ true) where
     fits : RoomFor b (xs ++ ys) r
@@ -77,23 +77,23 @@ module _ (b : Board) (i : InBoard b) (xs ys : List ℕ) (r : Room) where
           requests = omega (arith, fits.requests, long_asked);
         })
 
-    first_is : lines_of b xs r ≡ passage c Taken (yields b xs)
+    first_is : lines_of b xs r ≡ passage c (Ok tt) (yields b xs)
     first_is = when_taken b xs r first_taken
 
-    second_is : second_of b xs ys r ≡ passage (run c (singly ys)) Taken (yields c ys)
+    second_is : second_of b xs ys r ≡ passage (run c (singly ys)) (Ok tt) (yields c ys)
     second_is =
         ap (λ (p : Passage). lines_of p.next ys (behind_it p r)) first_is ∙ when_taken c ys rest then_taken
 
     second_taken_lem : second_taken b xs ys r ≡ true
     second_taken_lem = ap (λ (p : Passage). is_taken p.next ys (behind_it p r)) first_is ∙ then_taken
 
-    whole_is : lines_of b (xs ++ ys) r ≡ passage (run b (singly (xs ++ ys))) Taken (yields b (xs ++ ys))
+    whole_is : lines_of b (xs ++ ys) r ≡ passage (run b (singly (xs ++ ys))) (Ok tt) (yields b (xs ++ ys))
     whole_is = when_taken b (xs ++ ys) r e
 
     -- a count of the whole, of the first and of the second call
     adds : (count : Passage → ℕ)
-        → count (passage (run b (singly (xs ++ ys))) Taken (yields b (xs ++ ys)))
-        ≡ count (passage c Taken (yields b xs)) + count (passage (run c (singly ys)) Taken (yields c ys))
+        → count (passage (run b (singly (xs ++ ys))) (Ok tt) (yields b (xs ++ ys)))
+        ≡ count (passage c (Ok tt) (yields b xs)) + count (passage (run c (singly ys)) (Ok tt) (yields c ys))
         → count (lines_of b (xs ++ ys) r) ≡ count (lines_of b xs r) + count (second_of b xs ys r)
     adds count sum =
         ap count whole_is ∙ sum ∙ sym (ap₂ (λ (m n : ℕ). m + n) (ap count first_is) (ap count second_is))
@@ -137,11 +137,11 @@ module _ (b : Board) (i : InBoard b) (xs ys : List ℕ) (r : Room) where
           first_answer = ap (λ (p : Passage). p.answer) first_is;
           second_answer = ap (λ (p : Passage). p.answer) second_is;
           counts = add_up;
-          requests = adds (λ (p : Passage). p.requests) long_asked;
+          requests = adds (λ (p : Passage). p.used.requests) long_asked;
           handed_out = handed_so;
           asked_for =
-              λ out. written (asked b (xs ++ ys)) (λ (d : Board). asked d ys) (asked b xs) out (lines_of b xs r).requests
-              (cut_asked b xs ys) (ap (λ (p : Passage). p.requests) first_is);
+              λ out. written (asked b (xs ++ ys)) (λ (d : Board). asked d ys) (asked b xs) out (lines_of b xs r).used.requests
+              (cut_asked b xs ys) (ap (λ (p : Passage). p.used.requests) first_is);
         }
 
   -- ---- and where both calls are taken, there is room for the whole

@@ -6,7 +6,7 @@ use Prim.Native.Nat.{ℕ, ◌≤◌, ◌<◌}
 use native.Mathlib.Omega.{arith}
 use lib.Dec.{leb}
 use lib.ListN.{length}
-use borrow.Author.Tests.{le-leb, lt-leb}
+use borrow.Author.Tests.{leb-true, le-leb, lt-leb}
 use Rattle.lent.specs.Memory.{written}
 use Rattle.lent.proofs.Behind.{begins}
 use Rattle.numbers.specs.Numbers.{number_of, Told}
@@ -19,7 +19,7 @@ use Rattle.board_front.specs.Fitting.{within}
 use Rattle.board.specs.declared.Board.{Board}
 use Rattle.board.specs.Boards.{in_range}
 use Rattle.board.specs.Runs.{run, InBoard}
-use Rattle.board_pieces.specs.declared.Answer.TheVariants.{NoRoom, Broken}
+use Rattle.board_pieces.specs.declared.Refusal.TheVariants.{NoRoom, Broken}
 use Rattle.board_pieces.specs.declared.Passage.{Passage}
 use Rattle.board_pieces.specs.Pieces.{told, singly, yields, refused, lines_of, is_taken, left_in}
 use Rattle.board_pieces.specs.Noted.{noted, noted_of, noted_told, is_noted}
@@ -73,13 +73,15 @@ module _ (b : Board) (xs : List ℕ) (r : Room) (n : ℕ) where
   noted_numbers = told_by (leb (length xs) n) (in_range b) refl refl
 
 -- where there is a place for each note, all are written
-pub all_noted : (noting : Bool) (r : Receiver) (xs out : List ℕ) → (noting ≡ true → length xs ≤ length out)
-    → cond (noting && leb (length xs) (length out)) (written out 0 (notes_of r xs)) out
-    ≡ left_in noting (notes_of r xs) out
-all_noted true r xs out h =
-    ap (λ (t : Bool). cond t (written out 0 (notes_of r xs)) out) (le-leb (length xs) (length out) (h refl))
-    ∙ begins out (notes_of r xs) (omega (arith, notes_many r xs, h refl))
-all_noted false r xs out h = refl
+pub all_noted : (r : Receiver) (xs out : List ℕ)
+    → cond (leb (length xs) (length out)) (written out 0 (notes_of r xs)) out
+    ≡ left_in (leb (length xs) (length out)) (notes_of r xs) out
+all_noted r xs out = go (leb (length xs) (length out)) refl
+  where
+    go : (t : Bool) → leb (length xs) (length out) ≡ t
+        → cond t (written out 0 (notes_of r xs)) out ≡ left_in t (notes_of r xs) out
+    go true e = begins out (notes_of r xs) (omega (arith, notes_many r xs, leb-true (length xs) (length out) e))
+    go false e = refl
 
 -- the notes on the parts of a piece are those on the whole
 pub notes_cut : (b : Board) → InBoard b → (xs ys : List ℕ)

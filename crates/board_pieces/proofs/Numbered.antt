@@ -10,18 +10,19 @@ use Rattle.board.specs.declared.Board.{Board}
 use Rattle.board.specs.Boards.{in_range}
 use Rattle.board.specs.Calls.{at_line}
 use Rattle.board.specs.Runs.{run, out_to, request, handed_to, requests}
-use Rattle.board_pieces.specs.declared.Answer.{Answer}
-use Rattle.board_pieces.specs.declared.Answer.TheVariants.{Taken, NoRoom, Broken}
+use Rattle.std.specs.Prelude.{Result, Ok, Err}
+use Rattle.board_pieces.specs.declared.Refusal.{Refusal}
+use Rattle.board_pieces.specs.declared.Refusal.TheVariants.{NoRoom, Broken}
 use Rattle.board_front.specs.declared.Room.{Room}
 use Rattle.board_front.specs.Fitting.{within}
 use Rattle.board_pieces.specs.Pieces.{told, singly, handed, asked, yields, passage, refused, lines_of, is_taken}
 use Rattle.board_pieces.specs.Pieces.{lines_told}
 
-answer_by : Bool → Bool → Answer
-answer_by i w = cond i (cond w Taken NoRoom) Broken
+answer_by : Bool → Bool → Result (Unit {0}) Refusal
+answer_by i w = cond i (cond w (Ok tt) (Err NoRoom)) (Err Broken)
 
 by_tests : (b c : Board) (n : Room) (i w : Bool)
-    → (cond i (cond w (passage c Taken n) (refused b NoRoom)) (refused b Broken)).answer ≡ answer_by i w
+    → (cond i (cond w (passage c (Ok tt) n) (refused b NoRoom)) (refused b Broken)).answer ≡ answer_by i w
 unfolding answer_by
 by_tests b c n true true = refl
 by_tests b c n true false = refl
@@ -59,7 +60,7 @@ unfolding lines_of is_taken
 kept b xs r e = go (in_range b) (within (yields b xs) r) e
   where
     go : (i w : Bool) → i && w ≡ false
-        → (cond i (cond w (passage (run b (singly xs)) Taken (yields b xs)) (refused b NoRoom)) (refused b Broken)).next
+        → (cond i (cond w (passage (run b (singly xs)) (Ok tt) (yields b xs)) (refused b NoRoom)) (refused b Broken)).next
         ≡ b
     go true true f = absurd (fails f tt)
     go true false f = refl

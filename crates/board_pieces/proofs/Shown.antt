@@ -3,13 +3,12 @@ use mathlib.Core.Path.{◌≡◌, refl, sym, ap, ◌∙◌}
 use mathlib.Core.Bool.{true}
 use mathlib.Core.List.{List, [], ◌∷◌, ◌++◌, map}
 use Prim.Native.Nat.{ℕ}
-use lib.ListN.{take}
 use Rattle.values.specs.Large.{Values}
 use Rattle.links_wiring.specs.declared.Module.TheVariants.{Screen, Modem}
 use Rattle.links_hearing.specs.declared.Unfinished.TheVariants.{Free}
 use Rattle.links_hearing.specs.Phrases.{all_flowing, Phrased}
 use Rattle.line_receiver.specs.declared.Stepped.{Stepped}
-use Rattle.line_receiver.specs.Runs.{byte, on}
+use Rattle.line_receiver.specs.Runs.{byte}
 use Rattle.line_receiver.specs.Line.{made_of, filled, Sending}
 use Rattle.line_receiver.proofs.Kept.{on_afresh}
 use Rattle.links_hearing.specs.declared.ears.Ear.TheVariants.{Modem as modem}
@@ -19,6 +18,7 @@ use Rattle.board_feeding.specs.Feeding.{from_line}
 use Rattle.screen.specs.Calls.{ran}
 use Rattle.board_front.specs.declared.Room.{Room}
 use Rattle.board.specs.declared.Board.{Board}
+use Rattle.few.specs.Bytes.{contents}
 use Rattle.board.specs.Calls.{following, switched_on}
 use Rattle.board.specs.Runs.{Event, front, run, request, requests, InBoard}
 use Rattle.board.proofs.Ranges.{tested}
@@ -36,7 +36,7 @@ on_asks : (b : Board) → InBoard b → request (switched_on b) ≡ []
 unfolding following
 on_asks b i =
     simp (tested b i)
-    (ap (λ (s : Stepped). take s.asked s.request) (on_afresh b.receiver i.receiver))
+    (ap (λ (s : Stepped). contents s.request) (on_afresh b.receiver i.receiver))
 
 pub piece_shown : (vs bs qs : List ℕ) → Values vs → Sending 0 (made_of vs) bs qs
     → (b : Board) → InBoard b → unfinished b.links modem ≡ Free

@@ -22,7 +22,8 @@ use Rattle.board.specs.declared.Board.{Board}
 use Rattle.board.specs.Boards.{in_range, front_of}
 use Rattle.board.specs.Runs.{run, heard_in, calls_in, Outside, InBoard}
 use Rattle.board.proofs.Parts.{apart}
-use Rattle.board_pieces.specs.declared.Answer.TheVariants.{Taken, NoRoom, Broken}
+use Rattle.std.specs.Prelude.{Ok}
+use Rattle.board_pieces.specs.declared.Refusal.TheVariants.{NoRoom, Broken}
 use Rattle.board_front.specs.declared.Room.{Room}
 use Rattle.board_front.specs.LineBytes.{bytes, calls, to_each, asks}
 use Rattle.board_front.specs.Fitting.{room_in, within, needed}
@@ -74,19 +75,19 @@ module _ (b : Board) (i : InBoard b) (xs : List ℕ) where
     tested_is = ap (λ (n : Room). within n r) yields_is
 
     pub taken_is : in_range b ≡ true → within (needed (front_of b) xs) r ≡ true
-        → passage (heard_whole b xs) Taken (needed (front_of b) xs) ≡ lines_of b xs r
+        → passage (heard_whole b xs) (Ok tt) (needed (front_of b) xs) ≡ lines_of b xs r
     unfolding lines_of
     taken_is e w =
-        ap₂ (λ (c : Board) (n : Room). passage c Taken n) (sym run_is) (sym yields_is)
+        ap₂ (λ (c : Board) (n : Room). passage c (Ok tt) n) (sym run_is) (sym yields_is)
         ∙ sym (ap₂ (λ (t u : Bool). cond t
-        (cond u (passage (run b (singly xs)) Taken (yields b xs)) (refused b NoRoom)) (refused b Broken))
+        (cond u (passage (run b (singly xs)) (Ok tt) (yields b xs)) (refused b NoRoom)) (refused b Broken))
         e (tested_is ∙ w))
 
     pub short_is : in_range b ≡ true → within (needed (front_of b) xs) r ≡ false → refused b NoRoom ≡ lines_of b xs r
     unfolding lines_of
     short_is e w =
         sym (ap₂ (λ (t u : Bool). cond t
-        (cond u (passage (run b (singly xs)) Taken (yields b xs)) (refused b NoRoom)) (refused b Broken))
+        (cond u (passage (run b (singly xs)) (Ok tt) (yields b xs)) (refused b NoRoom)) (refused b Broken))
         e (tested_is ∙ w))
 
     pub is_taken_lem : (t : Bool) → in_range b ≡ true → within (needed (front_of b) xs) r ≡ t → is_taken b xs r ≡ t
@@ -99,7 +100,7 @@ pub broken_is : (b : Board) (xs : List ℕ) (r : Room) → in_range b ≡ false
 unfolding lines_of is_taken
 broken_is b xs r e = (
   sym (ap (λ (t : Bool). cond t
-      (cond (within (yields b xs) r) (passage (run b (singly xs)) Taken (yields b xs)) (refused b NoRoom))
+      (cond (within (yields b xs) r) (passage (run b (singly xs)) (Ok tt) (yields b xs)) (refused b NoRoom))
       (refused b Broken)) e),
   ap (λ (t : Bool). t && within (yields b xs) r) e,
 )
@@ -122,11 +123,11 @@ module _ (b : Board) (xs k m s q : List ℕ) (w : within (needed (front_of b) xs
       )
 
   pub all_handed : {p : Played} → p ≡ played b xs k m s q
-      → passage p.next Taken p.used ≡ passage (heard_whole b xs) Taken (needed (front_of b) xs)
+      → passage p.next (Ok tt) p.used ≡ passage (heard_whole b xs) (Ok tt) (needed (front_of b) xs)
   unfolding played
   all_handed e =
-      ap (λ (n : Played). passage n.next Taken n.used) e
-      ∙ ap (passage (heard_whole b xs) Taken) all_reached
+      ap (λ (n : Played). passage n.next (Ok tt) n.used) e
+      ∙ ap (passage (heard_whole b xs) (Ok tt)) all_reached
 
   pub all_written : InBoard b
       → (written k 0 (to_each Keyboard (front_of b) xs) ≡ left_in true (handed Keyboard b xs) k)

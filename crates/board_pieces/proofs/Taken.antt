@@ -19,10 +19,11 @@ use Rattle.board.specs.declared.Board.{Board}
 use Rattle.board.specs.Boards.{in_range, front_of}
 use Rattle.board.specs.Runs.{run, Outside, InBoard}
 use Rattle.board.proofs.Ranges.{tested}
-use Rattle.board_pieces.specs.declared.Answer.TheVariants.{Taken, NoRoom, Broken}
+use Rattle.std.specs.Prelude.{Ok}
+use Rattle.board_pieces.specs.declared.Refusal.TheVariants.{NoRoom, Broken}
 use Rattle.board_pieces.specs.declared.Passage.{Passage}
-use Rattle.board_pieces.specs.Pieces.{singly, handed, asked, yields, passage, refused, lines_of, is_taken, left_in}
-use Rattle.board_pieces.specs.Noted.{noted}
+use Rattle.board_passing.specs.declared.Outputs.{Outputs}
+use Rattle.board_pieces.specs.Pieces.{LeftIn, singly, handed, asked, yields, passage, refused, lines_of, is_taken, left_in}
 use Rattle.board_pieces.specs.Claims.{wrote, TakenWhole, NothingTaken, RoomFor}
 use Rattle.board_pieces.proofs.Numbered.{kept}
 use Rattle.board_pieces.proofs.Single.{is_taken_lem}
@@ -60,11 +61,11 @@ surely_taken b i xs r a =
 -- ---- what it comes to
 
 pub when_taken : (b : Board) (xs : List ℕ) (r : Room) → is_taken b xs r ≡ true
-    → lines_of b xs r ≡ passage (run b (singly xs)) Taken (yields b xs)
+    → lines_of b xs r ≡ passage (run b (singly xs)) (Ok tt) (yields b xs)
 unfolding lines_of
 when_taken b xs r e =
     ap₂ (λ (s t : Bool). cond s
-    (cond t (passage (run b (singly xs)) Taken (yields b xs)) (refused b NoRoom)) (refused b Broken))
+    (cond t (passage (run b (singly xs)) (Ok tt) (yields b xs)) (refused b NoRoom)) (refused b Broken))
     (in_range_lem b xs r e) (enough b xs r e)
 
 pub counted : (b : Board) (xs : List ℕ) (r : Room) → is_taken b xs r ≡ true → (m : Module) → Outside m
@@ -79,7 +80,7 @@ taken_whole b xs r e =
     record {
       next = ap (λ (p : Passage). p.next) (when_taken b xs r e);
       counts = counted b xs r e;
-      requests = ap (λ (p : Passage). p.requests) (when_taken b xs r e);
+      requests = ap (λ (p : Passage). p.used.requests) (when_taken b xs r e);
       begins =
           λ vs out. ap (λ (t : Bool). take (length vs) (left_in t vs out)) e
           ∙ take-append_seam vs (drop (length vs) out);
@@ -90,25 +91,23 @@ taken_whole b xs r e =
 
 -- ---- what it leaves
 
-same : {t : Bool} → t ≡ false → (vs out : List ℕ) → out ≡ left_in t vs out
+pub same : {t : Bool} → t ≡ false → (vs out : List ℕ) → out ≡ left_in t vs out
 same e vs out = sym (ap (λ (t : Bool). left_in t vs out) e)
 
--- the outputs, and the notes
-pub untouched : (b : Board) (xs k m s q n : List ℕ) {t u : Bool} → t ≡ false → u ≡ false
-    → (k ≡ left_in t (handed Keyboard b xs) k) × (m ≡ left_in t (handed Modem b xs) m)
-    × (s ≡ left_in t (handed Socket b xs) s) × (q ≡ left_in t (asked b xs) q) × (n ≡ left_in u (noted b xs) n)
-untouched b xs k m s q n e f = (
-  same e (handed Keyboard b xs) k,
-  same e (handed Modem b xs) m,
-  same e (handed Socket b xs) s,
-  same e (asked b xs) q,
-  same f (noted b xs) n,
-)
+-- the outputs
+pub untouched : (b : Board) (xs : List ℕ) (o : Outputs) {t : Bool} → t ≡ false → LeftIn t b xs o o
+untouched b xs o e =
+    record {
+      keyboard = same e (handed Keyboard b xs) o.keyboard.now;
+      modem = same e (handed Modem b xs) o.modem.now;
+      socket = same e (handed Socket b xs) o.socket.now;
+      requests = same e (asked b xs) o.requests.now;
+    }
 
 -- a refusal writes nothing
 none_written : (b c : Board) (n : Room) (i w : Bool) → i && w ≡ false → (count : Passage → ℕ)
     → count (refused b NoRoom) ≡ 0 → count (refused b Broken) ≡ 0
-    → count (cond i (cond w (passage c Taken n) (refused b NoRoom)) (refused b Broken)) ≡ 0
+    → count (cond i (cond w (passage c (Ok tt) n) (refused b NoRoom)) (refused b Broken)) ≡ 0
 none_written b c n true true f count p q = absurd (fails f tt)
 none_written b c n true false f count p q = p
 none_written b c n false w f count p q = q
@@ -122,7 +121,7 @@ nothing_taken b xs r e =
     record {
       next = kept b xs r e;
       counts = λ m. counts none m;
-      requests = none (λ (p : Passage). p.requests) refl refl;
+      requests = none (λ (p : Passage). p.used.requests) refl refl;
       outputs = λ vs out. ap (λ (t : Bool). left_in t vs out) e;
     }
   where

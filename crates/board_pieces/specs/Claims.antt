@@ -11,16 +11,16 @@ use Rattle.board_pieces.specs.Pieces.{singly, handed, asked, lines_of, is_taken,
 -- the bytes that a call wrote for a module
 abbrev pub wrote : Module → Passage → ℕ
 wrote Screen p = 0
-wrote Keyboard p = p.keyboard
-wrote Modem p = p.modem
-wrote Socket p = p.socket
+wrote Keyboard p = p.used.keyboard
+wrote Modem p = p.used.modem
+wrote Socket p = p.used.socket
 
 -- the board is that of single calls, one for each byte; as many bytes are written as these hand out; and an output
 -- begins with what it is given, and is as it was behind that
 pub record TakenWhole (b : Board) (xs : List ℕ) (r : Room) : Type 0 where
   pub next : (lines_of b xs r).next ≡ run b (singly xs)
   pub counts : (m : Module) → Outside m → wrote m (lines_of b xs r) ≡ length (handed m b xs)
-  pub requests : (lines_of b xs r).requests ≡ length (asked b xs)
+  pub requests : (lines_of b xs r).used.requests ≡ length (asked b xs)
   pub begins : (vs out : List ℕ) → take (length vs) (left_in (is_taken b xs r) vs out) ≡ vs
   pub beyond : (vs out : List ℕ) → drop (length vs) (left_in (is_taken b xs r) vs out) ≡ drop (length vs) out
 
@@ -28,7 +28,7 @@ pub record TakenWhole (b : Board) (xs : List ℕ) (r : Room) : Type 0 where
 pub record NothingTaken (b : Board) (xs : List ℕ) (r : Room) : Type 0 where
   pub next : (lines_of b xs r).next ≡ b
   pub counts : (m : Module) → wrote m (lines_of b xs r) ≡ 0
-  pub requests : (lines_of b xs r).requests ≡ 0
+  pub requests : (lines_of b xs r).used.requests ≡ 0
   pub outputs : (vs out : List ℕ) → left_in (is_taken b xs r) vs out ≡ out
 
 -- each output has room for what single calls hand out there

@@ -6,7 +6,7 @@ use Rattle.board_front.specs.declared.Room.{Room}
 use Rattle.board_front.specs.Fitting.{within}
 use Rattle.board.specs.declared.Board.{Board}
 use Rattle.board.specs.Boards.{in_range}
-use Rattle.board_pieces.specs.declared.Answer.TheVariants.{NoRoom, Broken}
+use Rattle.board_pieces.specs.declared.Refusal.TheVariants.{NoRoom, Broken}
 use Rattle.board_pieces.specs.declared.Passage.{Passage}
 use Rattle.board_pieces.specs.Pieces.{yields, refused, lines_of, is_taken}
 

@@ -1,11 +1,12 @@
 -- How far a piece is played, and what one turn more brings to the outputs. Assumes nothing.
-use mathlib.Core.Path.{◌≡◌, refl, sym, ap, ap₂, ◌∙◌, subst}
+use mathlib.Core.Path.{◌≡◌, refl, sym, ap, ap₂, ◌∙◌, subst, subst⁻¹}
 use mathlib.Core.Bool.{Bool, true, false, cond}
 use mathlib.Core.List.{List, ◌∷◌, [], ◌++◌}
-use Prim.Native.Nat.{ℕ, zero, suc, ◌+◌, ◌-◌, ◌≤◌}
+use Prim.Native.Nat.{ℕ, ◌+◌, ◌-◌, ◌≤◌, ◌<◌}
 use native.Mathlib.Omega.{arith}
-use lib.ListN.{length, take, drop, replicate}
-use lib.Seq.{take-add, length-take-le}
+use lib.ListN.{length, take, drop, replicate, length-drop}
+use lib.Seq.{take-add, take_all, length-take-le}
+use Rattle.few.specs.Bytes.{contents}
 use Rattle.lent.specs.Memory.{written, behind}
 use Rattle.lent.proofs.Behind.{length_written, none_written, twice, behind_twice}
 use Rattle.links_wiring.specs.declared.Module.{Module}
@@ -26,9 +27,9 @@ use Rattle.board_passing.specs.declared.Onward.{Onward}
 use Rattle.board_passing.specs.Passing.{Outs, outs, onward, handed_out}
 use Rattle.line_turns.specs.declared.Turn.{Turn}
 use Rattle.line_turns.specs.Notes.{notes_of}
-use Rattle.line_turns.specs.Turns.{TakenSingly}
+use Rattle.line_turns.specs.Turns.{turn_of, TakenSingly}
 use Rattle.line_turns.proofs.Held.{notes_append}
-use Rattle.line_turns.proofs.Steps.{notes_many}
+use Rattle.line_turns.proofs.Steps.{notes_many, taken_singly}
 use Rattle.board_playing.specs.Playing.{heard_whole, reached, played}
 
 -- ---- an output
@@ -51,9 +52,6 @@ module _ {before us out : List ℕ} {at : ℕ} (now : Begun before us out at) wh
             ∙ ap (behind before 0) (sym j);
       }
 
-  pub as_long : length out ≡ length before
-  as_long = ap length now.bytes ∙ length_written before 0 us
-
 pub begun_none : (out : List ℕ) → Begun out [] out 0
 begun_none out = record { bytes = sym (none_written out 0); place = omega arith }
 
@@ -68,7 +66,7 @@ module _ (f : Front) (xs : List ℕ) (i : ℕ) (t : Turn)
   ys = take t.took (drop i xs)
 
   abbrev vs : List ℕ
-  vs = take t.stepped.passed t.stepped.values
+  vs = contents t.stepped.values
 
   cut : take (i + t.took) xs ≡ take i xs ++ ys
   cut = take-add i t.took xs
@@ -90,7 +88,7 @@ module _ (f : Front) (xs : List ℕ) (i : ℕ) (t : Turn)
       ∙ ap (λ (cs : List Call). to_each m f (take i xs) ++ got m here.links cs) handed_on
 
   pub next_asks : asks f (take (i + t.took) xs)
-      ≡ asks f (take i xs) ++ take t.stepped.asked t.stepped.request
+      ≡ asks f (take i xs) ++ contents t.stepped.request
   next_asks =
       ap (asks f) cut ∙ asks_append f (take i xs) ys
       ∙ ap (λ (qs : List ℕ). asks f (take i xs) ++ qs) (sym taken.singly.asked)
@@ -102,22 +100,31 @@ module _ (f : Front) (xs : List ℕ) (i : ℕ) (t : Turn)
       ∙ ap (λ (ns : List ℕ). notes_of f.receiver (take i xs) ++ ns) (sym taken.singly.notes)
 
 -- what is heard and handed out when the beginning ys of a piece is played
-pub record SoFar (f : Front) (ys k m s q : List ℕ) (r : Receiver) (o : Onward) (asked : ℕ) (k' m' s' q' : List ℕ)
+pub record SoFar (f : Front) (ys k m s q : List ℕ) (r : Receiver) (o : Onward) (k' m' s' q' : List ℕ)
     : Type 0 where
   pub front : record { receiver = r; links = o.links } ≡ front_behind f ys
   pub keyboard : Begun k (to_each Keyboard f ys) k' o.used.keyboard
   pub modem : Begun m (to_each Modem f ys) m' o.used.modem
   pub socket : Begun s (to_each Socket f ys) s' o.used.socket
-  pub requests : Begun q (asks f ys) q' asked
+  pub requests : Begun q (asks f ys) q' o.used.requests
 
-module _ (f : Front) (xs : List ℕ) (i : ℕ) (t : Turn) {k m s q : List ℕ} {r : Receiver} {o : Onward} {a : ℕ}
-    {k' m' s' q' : List ℕ} (now : SoFar f (take i xs) k m s q r o a k' m' s' q')
+-- with this place behind the requests
+abbrev pub asking : Onward → ℕ → Onward
+asking o to =
+    record {
+      links = o.links;
+      gathered = o.gathered;
+      used = record { keyboard = o.used.keyboard; modem = o.used.modem; socket = o.used.socket; requests = to };
+    }
+
+module _ (f : Front) (xs : List ℕ) (i : ℕ) (t : Turn) {k m s q : List ℕ} {r : Receiver} {o : Onward}
+    {k' m' s' q' : List ℕ} (now : SoFar f (take i xs) k m s q r o k' m' s' q')
     (heard : TakenSingly r (drop i xs) t) where
   abbrev values : List ℕ
-  values = take t.stepped.passed t.stepped.values
+  values = contents t.stepped.values
 
   abbrev request : List ℕ
-  request = take t.stepped.asked t.stepped.request
+  request = contents t.stepped.request
 
   taken : TakenSingly (front_behind f (take i xs)).receiver (drop i xs) t
   taken = subst (λ (x : Receiver). TakenSingly x (drop i xs) t) (ap (λ (g : Front). g.receiver) now.front) heard
@@ -137,8 +144,8 @@ module _ (f : Front) (xs : List ℕ) (i : ℕ) (t : Turn) {k m s q : List ℕ} {
   pub played_on : (g : ℕ) (b : List ℕ) {p : Onward} {w : Outs} {to : ℕ} {asked : List ℕ}
       → p ≡ onward o.links values g o.used (outs b k' m' s')
       → w ≡ handed_out o.links values g o.used (outs b k' m' s')
-      → to ≡ behind q' a request → asked ≡ written q' a request
-      → SoFar f (take (i + t.took) xs) k m s q t.stepped.next p to w.keyboard w.modem w.socket asked
+      → to ≡ behind q' o.used.requests request → asked ≡ written q' o.used.requests request
+      → SoFar f (take (i + t.took) xs) k m s q t.stepped.next (asking p to) w.keyboard w.modem w.socket asked
   unfolding onward handed_out
   played_on g b e d c w =
       record {
@@ -169,22 +176,12 @@ module _ (f : Front) (xs : List ℕ) (i : ℕ) (t : Turn) {k m s q : List ℕ} {
   gathered_on g b e d = (ap (λ (x : Outs). x.screen) d, ap (λ (x : Onward). x.gathered) e)
 
 -- the whole piece is played, and the screen shown what is left
-pub all_played : (b : Board) {xs ys k m s q : List ℕ} {r : Receiver} {o : Onward} {a : ℕ} {k' m' s' q' : List ℕ}
-    {u : Page} → SoFar (front_of b) ys k m s q r o a k' m' s' q'
+pub all_played : (b : Board) {xs ys k m s q : List ℕ} {r : Receiver} {o : Onward} {k' m' s' q' : List ℕ} {u : Page}
+    → SoFar (front_of b) ys k m s q r o k' m' s' q'
     → u ≡ (ran b.screen (to_each Screen (front_of b) ys)).screen → ys ≡ xs
-    → record {
-      next = record { receiver = r; links = o.links; screen = u };
-      used =
-          record {
-            keyboard = o.used.keyboard;
-            modem = o.used.modem;
-            socket = o.used.socket;
-            requests = a;
-          };
-    }
-    ≡ played b xs k m s q
+    → record { next = record { receiver = r; links = o.links; screen = u }; used = o.used } ≡ played b xs k m s q
 unfolding played
-all_played b {xs} {ys} {k} {m} {s} {q} {r} {o} {a} {k'} {m'} {s'} {q'} {u} now shown e =
+all_played b {xs} {ys} {k} {m} {s} {q} {r} {o} {k'} {m'} {s'} {q'} {u} now shown e =
     let next : record { receiver = r; links = o.links; screen = u } ≡ heard_whole b ys =
     ap₂ (λ (g : Front) (t : Page). record { receiver = g.receiver; links = g.links; screen = t }) now.front
     shown in
@@ -192,11 +189,25 @@ all_played b {xs} {ys} {k} {m} {s} {q} {r} {o} {a} {k'} {m'} {s'} {q'} {u} now s
       keyboard = o.used.keyboard;
       modem = o.used.modem;
       socket = o.used.socket;
-      requests = a;
+      requests = o.used.requests;
     } ≡ reached (front_of b) ys k m s q =
     simp (now.keyboard.place, now.modem.place, now.socket.place, now.requests.place) in
     ap₂ (λ (n : Board) (w : Room). record { next = n; used = w }) next used
     ∙ ap (λ (zs : List ℕ). played b zs k m s q) e
+
+-- ---- a turn of a piece
+
+pub record Turned (r : Receiver) (xs : List ℕ) (i : ℕ) (t : Turn) : Type 0 where
+  pub taken : TakenSingly r (drop i xs) t
+  pub within : i + t.took ≤ length xs
+
+pub turned : (r : Receiver) (xs : List ℕ) (i : ℕ) (t : Turn) → length r.held ≡ 17 → i < length xs
+    → t ≡ turn_of r (take (length xs - i) (drop i xs)) → Turned r xs i t
+turned r xs i t g h e =
+    let f : t ≡ turn_of r (drop i xs) =
+    e ∙ ap (turn_of r) (take_all (length xs - i) (drop i xs) (omega (arith, length-drop i xs))) in
+    let taken = subst⁻¹ (TakenSingly r (drop i xs)) f (taken_singly r (drop i xs) g (omega (arith, h, length-drop i xs))) in
+    record { taken = taken; within = omega (arith, taken.within, h, length-drop i xs) }
 
 -- ---- the notes
 
@@ -219,7 +230,3 @@ notes_on false us ws all before out at e a j = e
 
 pub noted_so_far : (r : Receiver) (xs : List ℕ) (i : ℕ) → i ≤ length xs → i ≡ length (notes_of r (take i xs))
 noted_so_far r xs i h = sym (notes_many r (take i xs) ∙ length-take-le i xs h)
-
-pub zeros_on : (n : ℕ) → ◌≡◌ {A = List ℕ} (replicate n 0 ++ (0 ∷ [])) (replicate (suc n) 0)
-zeros_on zero = refl
-zeros_on (suc n) = ap (λ (r : List ℕ). 0 ∷ r) (zeros_on n)

@@ -5,17 +5,19 @@
 // specs/Playing says what a piece comes to; proofs/SoFar and proofs/Gathered show that turn by turn it comes to that.
 #![tactic(auto)]
 
-ghost use Rattle.std.specs.Prelude.{◌≡◌, true, cond, ◌&&◌, [], ◌∷◌, ◌++◌, ◌+◌, ◌-◌, ◌≤◌, ◌<◌, leb, length, replicate};
+ghost use Rattle.std.specs.Prelude.{◌≡◌, true, cond, [], ◌∷◌, ◌++◌, ◌+◌, ◌-◌, ◌≤◌, ◌<◌, leb, length, replicate};
 ghost use Rattle.lent.specs.Memory.{written};
 ghost use Rattle.links_wiring.specs.declared.Module.TheVariants.{Keyboard, Modem, Socket};
 ghost use Rattle.line_turns.specs.Notes.{notes_of};
 ghost use Rattle.board_front.specs.LineBytes.{to_each, asks};
 ghost use Rattle.board.specs.Boards.{front_of};
+ghost use Rattle.board_passing.specs.Passing.{SameOutputs};
 ghost use Rattle.board_playing.specs.Playing.{played};
 
-use board::Board;
+use board::{Board, show};
 use board_front::Room;
-use board_passing::{Onward, pass_on};
+use board_passing::{Onward, Outputs};
+use lent::{add, first};
 use line_turns::take_turn;
 
 // As many values as are gathered for the screen before it is given them.
@@ -28,115 +30,72 @@ pub struct Played {
     pub used: Room,
 }
 
-// Whether notes are asked for, and there is a place for each.
-fn has_places(noting: bool, bytes: usize, places: usize) -> bool
-    ensures { result ≡ noting && leb bytes places }
-{
-    if noting {
-        return bytes <= places;
-    }
-    false
-}
-
-// The notes on the bytes of a turn: nothing to note but of the last. They are written only where they are asked for.
-fn note(noting: bool, notes: &mut [u8], at: usize, took: usize, last: u8)
+// The notes on the bytes of a turn, where bytes are noted: nothing to note but of the last.
+fn note(noted: bool, notes: &mut [u8], at: usize, took: usize, last: u8)
     requires took_nonzero { 0 < took }
-    requires took_in_bounds { noting ≡ true → at + took ≤ length notes.old }
+    requires took_in_bounds { noted ≡ true → at + took ≤ length notes.old }
     ensures { notes.new
-        ≡ cond noting (written notes.old at (replicate (took - 1) 0 ++ (last ∷ []))) notes.old }
+        ≡ cond noted (written notes.old at (replicate (took - 1) 0 ++ (last ∷ []))) notes.old }
 {
-    if noting {
-        let before = took - 1;
-        let mut i: usize = 0;
-        while i < before {
-            notes[at + i] = 0;
-            i += 1;
-        }
-        notes[at + before] = last;
+    if noted {
+        let before = at + took - 1;
+        notes[at..before].fill(0);
+        notes[before] = last;
     }
 }
 
-// A piece of line bytes, and a note on each where they are asked for and there is a place for each. It gives no number:
-// `lines` of the crate `board_pieces` does, and tests its board and the room before it comes here.
-pub fn play(
-    board: Board,
-    piece: &[u8],
-    keyboard: &mut [u8],
-    modem: &mut [u8],
-    socket: &mut [u8],
-    requests: &mut [u8],
-    notes: &mut [u8],
-    noting: bool,
-) -> Played
-    ensures value { result ≡ played board piece.now keyboard.old modem.old
-        socket.old requests.old }
-    ensures keys { keyboard.new
-        ≡ written keyboard.old 0 (to_each Keyboard (front_of board) piece.now) }
-    ensures line { modem.new
-        ≡ written modem.old 0 (to_each Modem (front_of board) piece.now) }
-    ensures port { socket.new
-        ≡ written socket.old 0 (to_each Socket (front_of board) piece.now) }
-    ensures asked { requests.new
-        ≡ written requests.old 0 (asks (front_of board) piece.now) }
+// A piece of line bytes, and a note on each byte where `notes` has a place for each: where it has fewer, it stays as it
+// is, so that who wants no notes lends a slice of no places. It is no `Option` of a slice, since its clause `noted` did
+// not close: what stands at the end in bytes lent in an option, through which a loop writes. It gives no number: `lines`
+// of the crate `board_pieces` does, and tests its board and the room before it comes here.
+pub fn play(board: Board, piece: &[u8], outputs: &mut Outputs<'_>, notes: &mut [u8]) -> Played
+    ensures value { result ≡ played board piece.now outputs.old.keyboard.now
+        outputs.old.modem.now outputs.old.socket.now outputs.old.requests.now }
+    ensures keys { outputs.new.keyboard.now
+        ≡ written outputs.old.keyboard.now 0 (to_each Keyboard (front_of board) piece.now) }
+    ensures line { outputs.new.modem.now
+        ≡ written outputs.old.modem.now 0 (to_each Modem (front_of board) piece.now) }
+    ensures port { outputs.new.socket.now
+        ≡ written outputs.old.socket.now 0 (to_each Socket (front_of board) piece.now) }
+    ensures asked { outputs.new.requests.now
+        ≡ written outputs.old.requests.now 0 (asks (front_of board) piece.now) }
+    ensures same { SameOutputs outputs.old outputs.new }
     ensures noted { notes.new
-        ≡ cond (noting && leb (length piece.now) (length notes.old))
+        ≡ cond (leb (length piece.now) (length notes.old))
         (written notes.old 0 (notes_of board.receiver piece.now)) notes.old }
 {
-    let noted = has_places(noting, piece.len(), notes.len());
+    let noted = piece.len() <= notes.len();
     let mut screen = board.screen;
     let mut receiver = board.receiver;
-    let links = board.links;
     let mut state = Onward {
-        links,
+        links: board.links,
         gathered: 0,
-        used: Room {
-            keyboard: 0,
-            modem: 0,
-            socket: 0,
-            requests: 0,
-        },
+        used: Room::none(),
     };
-    let mut gathered = [0u8; GATHERED];
-    let mut asked: usize = 0;
+    // Not in `Few` with its count, since that would be copied with each turn: 4096 bytes for fifteen values.
+    let mut gathered = [0; GATHERED];
     let mut i: usize = 0;
+    // By hand, since a turn says itself how many bytes it takes.
     while i < piece.len() {
         let turn = take_turn(receiver, &piece[i..]);
         let stepped = turn.stepped;
         receiver = stepped.next;
         note(noted, notes, i, turn.took, turn.note);
-        let request = stepped.request;
-        asked = lent::add(lent::first(&request, stepped.asked), requests, asked);
         if GATHERED - 75 < state.gathered {
-            screen = board::show(screen, &gathered, state.gathered);
+            screen = show(screen, first(&gathered, state.gathered));
             state.gathered = 0;
         }
-        let values = stepped.values;
-        state = pass_on(
-            state.links,
-            values,
-            stepped.passed,
-            state.gathered,
-            state.used,
-            &mut gathered,
-            keyboard,
-            modem,
-            socket,
-        );
+        state = outputs.pass_on(&mut gathered, state, stepped.values);
+        let asked = stepped.request.bytes();
+        state.used.requests = add(asked, outputs.requests, state.used.requests);
         i += turn.took;
     }
-    let screen = board::show(screen, &gathered, state.gathered);
-    let links = state.links;
     Played {
         next: Board {
             receiver,
-            links,
-            screen,
+            links: state.links,
+            screen: show(screen, first(&gathered, state.gathered)),
         },
-        used: Room {
-            keyboard: state.used.keyboard,
-            modem: state.used.modem,
-            socket: state.used.socket,
-            requests: asked,
-        },
+        used: state.used,
     }
 }

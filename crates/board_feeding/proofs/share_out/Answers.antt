@@ -4,10 +4,10 @@ use Prim.Native.Nat.{◌≤◌}
 use mathlib.Core.List.{[]}
 use native.Mathlib.Omega.{arith}
 use lib.ListN.{length, length-take}
-use Rattle.links_sending.specs.declared.Bytes.{Bytes}
-use Rattle.links_sending.specs.Sending.{bytes_of, gets}
-use Rattle.board_feeding.specs.declared.Shares.{Shares}
-use Rattle.board_feeding.specs.Feeding.{shares_of, gathered, Enough}
+use Rattle.few.specs.declared.Few.{Few}
+use Rattle.few.specs.Bytes.{contents}
+use Rattle.links_sending.specs.Sending.{gets}
+use Rattle.board_feeding.specs.Feeding.{Shares, shares_of, gathered, Enough}
 use Rattle.board_feeding.proofs.Outlets.{gathers}
 use borrow.Author.Rules.{rules}
 use Rattle.board_feeding.proofs.share_out.Goals as goal
@@ -20,7 +20,7 @@ returns c =
     let sent = c.args.sent in
     let r : c.gather.result ≡ shares_of (gets sent) =
     c.gather.ensures ∙ ap (λ (w : Shares). gathered w sent) c.nothing.ensures ∙ gathers (λ m. []) sent in
-    let few : (b : Bytes) → length b.codes ≡ 5 → length (bytes_of b) ≤ 75 =
+    let few : (b : Few 5) → length b.codes ≡ 5 → length (contents b) ≤ 75 =
     λ b n. omega (arith, n, length-take b.count b.codes) in (
       r,
       subst⁻¹ Enough r

@@ -1,7 +1,6 @@
 -- `board_front::hear` meets its contract. Assumes nothing.
 use Rattle.line_receiver.proofs.Asked.{asked_counted}
 use Rattle.board_front.specs.LineBytes.{heard_by}
-use borrow.Author.Rules.{rules}
 use Rattle.board_front.proofs.hear.Goals as goal
 
 pub returns : goal.returns

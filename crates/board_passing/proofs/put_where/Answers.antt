@@ -4,7 +4,6 @@ use mathlib.Core.List.{[]}
 use native.Mathlib.Omega.{arith}
 use Rattle.lent.specs.Memory.{behind}
 use Rattle.lent.proofs.Behind.{none_written}
-use borrow.Author.Rules.{rules}
 use Rattle.board_passing.proofs.put_where.Goals as goal
 
 pub returns-then-reached : goal.returns-then-reached
@@ -15,8 +14,8 @@ returns-then-reached c =
       left = simp (e, c.add.ensures.left);
     }
 
-pub returns : goal.returns
-returns c =
+pub returns-else-reached : goal.returns-else-reached
+returns-else-reached c =
     let a = c.args in
     let e = c.if-reached.false in
     let none : behind a.out.now a.at [] ≡ a.at = omega arith in

@@ -1,88 +1,40 @@
 -- `board_playing::note` meets its contract. Assumes nothing.
-use mathlib.Core.Path.{◌≡◌, refl, sym, ap, ◌∙◌}
-use mathlib.Core.Bool.{Bool, cond}
-use mathlib.Core.List.{List, [], ◌∷◌, ◌++◌}
-use Prim.Native.Nat.{ℕ, ◌+◌, ◌-◌, ◌≤◌, zero-le}
-use native.Mathlib.Numerals.{add-one}
-use native.Mathlib.Omega.{arith}
-use lib.ListN.{length, set, replicate, length-set, length-replicate}
-use borrow.Author.Rules.{rules}
+use Rattle.std.proofs.Common.{◌≡◌, sym, ap, ap₂, ◌∙◌, Bool, cond, ℕ, zero, suc, ◌+◌, ◌-◌, ◌≤◌, ◌<◌, List, [], ◌∷◌, ◌++◌, length, set, replicate, take, drop, length-take-le, length-drop, arith}
+use borrow.Rule.Slice.PartMut.{put_mid}
 use Rattle.lent.specs.Memory.{written}
-use Rattle.lent.proofs.Behind.{none_written, one_more}
-use Rattle.board_playing.proofs.SoFar.{zeros_on}
+use Rattle.lent.proofs.Behind.{begins, one_more}
+use Rattle.std.proofs.Math.ListN.{length-replicate}
 use Rattle.board_playing.proofs.note.Goals as goal
 
--- one more, at the place behind those there are
-written_on : (out before : List ℕ) (at i v : ℕ) → out ≡ written before at (replicate i 0)
-    → set out (at + i) v ≡ written before at (replicate i 0 ++ (v ∷ []))
-written_on out before at i v e =
-    ap (λ (x : List ℕ). set x (at + i) v) e
-    ∙ ap (λ (n : ℕ). set (written before at (replicate i 0)) (at + n) v) (sym (length-replicate {A = ℕ} i 0))
-    ∙ one_more before at (replicate i 0) v
+in_place : (out : List ℕ) (at : ℕ) (vs : List ℕ) → at + length vs ≤ length out
+    → take at out ++ (vs ++ drop (length vs) (drop at out)) ≡ written out at vs
+in_place out zero vs h = sym (begins out vs (omega arith))
+in_place [] (suc at) vs h = absurd (omega arith)
+in_place (o ∷ out) (suc at) vs h = ap (λ (l : List ℕ). o ∷ l) (in_place out at vs (omega arith))
 
-pub overflow_sub-before : goal.overflow_sub-before
-overflow_sub-before c = omega (arith, c.requires.took_nonzero)
+-- n zeros written from a place on, and a last value behind them
+noted_at : (out : List ℕ) (at n v : ℕ) (k i : ℕ) (zeros : List ℕ) → k ≡ n → i ≡ at + n → zeros ≡ replicate n 0
+    → at + n ≤ length out → set (put_mid at k out zeros) i v ≡ written out at (replicate n 0 ++ (v ∷ []))
+noted_at out at n v k i zeros e f z h =
+    let long : length (replicate {A = ℕ} n 0) ≡ n = length-replicate {A = ℕ} n 0 in
+    ap₂ (λ (j : ℕ) (vs : List ℕ). set (put_mid at j out vs) i v) (e ∙ sym long) z
+    ∙ ap₂ (λ (l : List ℕ) (j : ℕ). set l j v) (in_place out at (replicate n 0) (omega (arith, long, h)))
+    (f ∙ ap (λ (j : ℕ). at + j) (sym long))
+    ∙ one_more out at (replicate n 0) v
 
-pub loop-i-init : goal.loop-i-init
-loop-i-init c = (zero-le, sym (none_written c.args.notes.now c.args.at), refl)
-
-pub overflow_add-notes : goal.overflow_add-notes
-overflow_add-notes c =
-    let fits : (let a = c.args in a.at + a.took ≤ length a.notes.now) =
-    c.requires.took_in_bounds c.if-noting.true in
-    search (rules, fits, c.requires.took_nonzero)
-
-pub bounds-notes-at : goal.bounds-notes-at
-bounds-notes-at c =
-    let fits : (let a = c.args in a.at + a.took ≤ length a.notes.now) =
-    c.requires.took_in_bounds c.if-noting.true in
-    omega (arith, fits, c.loop-i.invariant.2)
-
-pub overflow_add-i : goal.overflow_add-i
-overflow_add-i c =
-    let fits : (let a = c.args in a.at + a.took ≤ length a.notes.now) =
-    c.requires.took_in_bounds c.if-noting.true in
-    search (rules, fits, c.requires.took_nonzero)
-
-pub loop-i-smaller : goal.loop-i-smaller
-loop-i-smaller c = omega arith
-
-pub loop-i-preserved : goal.loop-i-preserved
-loop-i-preserved c =
-    let a = c.args in
-    let i : ℕ = c.loop-i.i in (
-      omega arith,
-      written_on c.loop-i.notes a.notes.now a.at i 0 c.loop-i.invariant.1
-          ∙ ap (written a.notes.now a.at) (zeros_on i ∙ ap (λ (n : ℕ). replicate n 0) (sym (add-one i))),
-      length-set c.loop-i.notes (a.at + i) 0 ∙ c.loop-i.invariant.2,
-    )
-
-pub overflow_add-notes-then-noting : goal.overflow_add-notes-then-noting
-overflow_add-notes-then-noting c =
-    let fits : (let a = c.args in a.at + a.took ≤ length a.notes.now) =
-    c.requires.took_in_bounds c.if-noting.true in
-    search (rules, fits, c.requires.took_nonzero)
-
-pub bounds-notes-at-then-noting : goal.bounds-notes-at-then-noting
-bounds-notes-at-then-noting c =
-    let fits : (let a = c.args in a.at + a.took ≤ length a.notes.now) =
-    c.requires.took_in_bounds c.if-noting.true in
-    omega (arith, fits, c.loop-i.invariant.2, c.requires.took_nonzero)
-
-pub shape_of-notes : goal.shape_of-notes
-shape_of-notes c =
-    let a = c.args in
-    length-set c.loop-i.notes (a.at + (a.took - 1)) a.last ∙ c.loop-i.invariant.2
-
-pub returns-after-loop-i : goal.returns-after-loop-i
-returns-after-loop-i c =
+pub returns-then-noted : goal.returns-then-noted
+returns-then-noted c =
     let a = c.args in
     let n : ℕ = a.took - 1 in
-    let e : c.loop-i.i ≡ n = omega arith in
-    written_on c.loop-i.notes a.notes.now a.at n a.last
-    (c.loop-i.invariant.1 ∙ ap (λ (k : ℕ). written a.notes.now a.at (replicate k 0)) e)
+    let room : a.at + a.took ≤ length a.notes.now = c.requires.took_in_bounds c.if-noted.true in
+    let some : 0 < a.took = c.requires.took_nonzero in
+    let k : a.at + a.took - 1 - a.at ≡ n = omega arith in
+    let rest : length (drop a.at a.notes.now) ≡ length a.notes.now - a.at = length-drop a.at a.notes.now in
+    let many : length (take (a.at + a.took - 1 - a.at) (drop a.at a.notes.now)) ≡ n =
+    length-take-le (a.at + a.took - 1 - a.at) (drop a.at a.notes.now) (omega arith) ∙ k in
+    let zeros : c.fill.new.self ≡ replicate n 0 =
+    c.fill.ensures.after (λ y e. e) ∙ ap (λ (j : ℕ). replicate j 0) many in
+    noted_at a.notes.now a.at n a.last (a.at + a.took - 1 - a.at) (a.at + a.took - 1) c.fill.new.self k (omega arith) zeros
+    (omega arith)
     ∙ ap (λ (t : Bool). cond t (written a.notes.now a.at (replicate n 0 ++ (a.last ∷ []))) a.notes.now)
-    (sym c.if-noting.true)
-
-pub returns-else-noting : goal.returns-else-noting
-returns-else-noting c = simp c.if-noting.false
+    (sym c.if-noted.true)
