@@ -1,11 +1,12 @@
 // The mode `judge`: each seventeen bytes judged in place. The counts are the receiver's too.
-use crate::portions::PORTION;
-use crate::texts::{put, put_bytes, put_number, sum};
+use crate::portions::Part;
+use crate::texts::{Hex, sum};
 use block_reader::Verdict;
-use std::io::Read;
-use system::{Output, read_full};
+use std::fmt;
+use system::Output;
 
-#[derive(Clone, Copy)]
+// How many blocks came to each verdict.
+#[derive(Clone, Copy, Default)]
 pub(crate) struct Counts {
     clean: u64,
     mended: u64,
@@ -13,95 +14,68 @@ pub(crate) struct Counts {
     wrong_length: u64,
 }
 
-pub(crate) fn nothing() -> Counts {
-    Counts {
-        clean: 0,
-        mended: 0,
-        repeat: 0,
-        wrong_length: 0,
-    }
-}
-
-pub(crate) fn counted(mut counts: Counts, verdict: Verdict) -> Counts {
-    match verdict {
-        Verdict::Clean => counts.clean = sum(counts.clean, 1),
-        Verdict::Mended(_) => counts.mended = sum(counts.mended, 1),
-        Verdict::Repeat => counts.repeat = sum(counts.repeat, 1),
-        Verdict::WrongLength => counts.wrong_length = sum(counts.wrong_length, 1),
-    }
-    counts
-}
-
-pub(crate) fn put_counts(out: &mut Output, counts: Counts) {
-    put_number(out, b": clean ", counts.clean);
-    put_number(out, b", mended ", counts.mended);
-    put_number(out, b", repeat ", counts.repeat);
-    put_number(out, b", wrong length ", counts.wrong_length);
-    put(out, b"\n");
-}
-
-pub(crate) fn put_verdict(out: &mut Output, verdict: Verdict) {
-    match verdict {
-        Verdict::Clean => put(out, b"clean"),
-        Verdict::Mended(bit) => put_number(out, b"mended ", bit as u64),
-        Verdict::Repeat => put(out, b"repeat"),
-        Verdict::WrongLength => put(out, b"wrong length"),
-    }
-}
-
-// A block of any length: its verdict, and where that is wanted the block as it is left.
-fn judge_one(out: &mut Output, block: &mut [u8], writing: bool) -> Verdict {
-    let verdict = block_reader::mend(block);
-    if writing {
-        put_bytes(out, b"", block);
-        put(out, b" ");
-        put_verdict(out, verdict);
-        put(out, b"\n");
-    }
-    verdict
-}
-
-// The first block of what is left of a portion; the last may be short.
-fn judge_next(out: &mut Output, rest: &mut [u8], writing: bool) -> Verdict {
-    if 17 < rest.len() {
-        return judge_one(out, &mut rest[0..17], writing);
-    }
-    judge_one(out, rest, writing)
-}
-
-// Each block of a portion.
-fn judge_all(out: &mut Output, portion: &mut [u8], begun: Counts, writing: bool) -> Counts {
-    let mut counts = begun;
-    for from in (0..portion.len()).step_by(17) {
-        counts = counted(counts, judge_next(out, &mut portion[from..], writing));
-    }
-    counts
-}
-
-// The same of a portion of which so many bytes are filled.
-fn judge_filled(
-    out: &mut Output,
-    portion: &mut [u8],
-    n: usize,
-    counts: Counts,
-    writing: bool,
-) -> Counts {
-    if n < portion.len() {
-        return judge_all(out, &mut portion[0..n], counts, writing);
-    }
-    judge_all(out, portion, counts, writing)
-}
-
-pub(crate) fn judge(out: &mut Output, record: &mut impl Read, writing: bool) {
-    let mut portion = [0u8; PORTION];
-    let mut counts = nothing();
-    for _ in 0..u64::MAX {
-        let n = read_full(record, &mut portion);
-        if n == 0 {
-            break;
+impl Counts {
+    pub(crate) fn count(&mut self, verdict: Verdict) {
+        match verdict {
+            Verdict::Clean => self.clean = sum(self.clean, 1),
+            Verdict::Mended(_) => self.mended = sum(self.mended, 1),
+            Verdict::Repeat => self.repeat = sum(self.repeat, 1),
+            Verdict::WrongLength => self.wrong_length = sum(self.wrong_length, 1),
         }
-        counts = judge_filled(out, &mut portion, n, counts, writing);
     }
-    put(out, b"judge");
-    put_counts(out, counts);
+}
+
+impl fmt::Display for Counts {
+    fn fmt<W: fmt::Write>(&self, f: &mut fmt::Formatter<W>) -> fmt::Result {
+        let Counts {
+            clean,
+            mended,
+            repeat,
+            wrong_length,
+        } = *self;
+        write!(
+            f,
+            "clean {clean}, mended {mended}, repeat {repeat}, wrong length {wrong_length}"
+        )
+    }
+}
+
+// A verdict as text.
+#[derive(Clone, Copy)]
+pub(crate) struct Told(pub(crate) Verdict);
+
+impl fmt::Display for Told {
+    fn fmt<W: fmt::Write>(&self, f: &mut fmt::Formatter<W>) -> fmt::Result {
+        match self.0 {
+            Verdict::Clean => f.write_str("clean"),
+            Verdict::Mended(bit) => write!(f, "mended {bit}"),
+            Verdict::Repeat => f.write_str("repeat"),
+            Verdict::WrongLength => f.write_str("wrong length"),
+        }
+    }
+}
+
+#[derive(Clone, Copy, Default)]
+pub(crate) struct Judging {
+    counts: Counts,
+}
+
+// A block of any length; the last of a portion may be short. It is written as it is left, with its verdict.
+impl Part for Judging {
+    fn take(&mut self, out: &mut Output, portion: &mut [u8], writing: bool) {
+        for block in portion.chunks_mut(17) {
+            let verdict = block_reader::mend(block);
+            self.counts.count(verdict);
+            if writing {
+                let block = Hex(block);
+                let verdict = Told(verdict);
+                out.print(format_args!("{block} {verdict}\n"));
+            }
+        }
+    }
+
+    fn tell(&self, out: &mut Output) {
+        let counts = self.counts;
+        out.print(format_args!("judge: {counts}\n"));
+    }
 }

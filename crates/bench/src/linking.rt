@@ -1,117 +1,74 @@
 // The mode `links`: the bytes without parity as values, handed to connected links fifteen at a time.
-use crate::portions::{PORTION, remove_parity};
-use crate::states::put_links;
-use crate::texts::{put, put_lines, put_number, sum};
-use board_feeding::{Outlet, Shares};
-use lent::first;
+use crate::portions::{Part, remove_parity};
+use crate::states::LinksState;
+use crate::texts::{print_lines, sum};
+use few::Few;
 use links::Links;
-use std::io::Read;
-use system::{Output, read_full};
+use links_wiring::Each;
+use system::Output;
 
 // Links, and how many bytes each module got.
 #[derive(Clone, Copy)]
-struct Handed {
+pub(crate) struct Linking {
     links: Links,
-    screen: u64,
-    keyboard: u64,
-    modem: u64,
-    socket: u64,
+    handed: Each<u64>,
 }
 
-fn put_outlet(out: &mut Output, name: &[u8], outlet: Outlet) {
-    let codes = outlet.codes;
-    put_lines(out, name, first(&codes, outlet.count));
-}
-
-fn put_shares(out: &mut Output, shares: Shares) {
-    put_outlet(out, b"screen ", shares.screen);
-    put_outlet(out, b"keyboard ", shares.keyboard);
-    put_outlet(out, b"modem ", shares.modem);
-    put_outlet(out, b"socket ", shares.socket);
-}
-
-#[derive(Clone, Copy)]
-struct Fifteen {
-    values: [u8; 15],
-}
-
-// The first fifteen values of what is left of a portion.
-fn taken(rest: &[u8]) -> Fifteen {
-    if rest.len() < 15 {
-        return short(rest);
-    }
-    let mut values = [0u8; 15];
-    for i in 0..15 {
-        values[i] = rest[i];
-    }
-    Fifteen { values }
-}
-
-// The values of a group that is short, with zeros behind them.
-fn short(rest: &[u8]) -> Fifteen {
-    let mut values = [0u8; 15];
-    for i in 0..15 {
-        values[i] = value_at(rest, i);
-    }
-    Fifteen { values }
-}
-
-fn value_at(rest: &[u8], i: usize) -> u8 {
-    if i < rest.len() {
-        return rest[i];
-    }
-    0
-}
-
-// The first group of what is left of a portion. Of a count above fifteen the links take fifteen.
-fn feed_next(out: &mut Output, handed: Handed, rest: &[u8], writing: bool) -> Handed {
-    let group = taken(rest);
-    let values = group.values;
-    let fed = board_feeding::feed(handed.links, values, rest.len());
-    let links = fed.links;
-    let shares = fed.shares;
-    if writing {
-        put_shares(out, shares);
-    }
-    Handed {
-        links,
-        screen: sum(handed.screen, shares.screen.count),
-        keyboard: sum(handed.keyboard, shares.keyboard.count),
-        modem: sum(handed.modem, shares.modem.count),
-        socket: sum(handed.socket, shares.socket.count),
-    }
-}
-
-// Each group of a portion.
-fn feed_all(out: &mut Output, start: Handed, portion: &[u8], writing: bool) -> Handed {
-    let mut handed = start;
-    for from in (0..portion.len()).step_by(15) {
-        handed = feed_next(out, handed, &portion[from..], writing);
-    }
-    handed
-}
-
-pub(crate) fn link(out: &mut Output, record: &mut impl Read, writing: bool) {
-    let mut portion = [0u8; PORTION];
-    let mut handed = Handed {
-        links: Links::connected(),
-        screen: 0,
-        keyboard: 0,
-        modem: 0,
-        socket: 0,
-    };
-    for _ in 0..u64::MAX {
-        let n = read_full(record, &mut portion);
-        if n == 0 {
-            break;
+impl Linking {
+    pub(crate) fn begun() -> Linking {
+        Linking {
+            links: Links::connected(),
+            handed: Each::all(0),
         }
-        remove_parity(&mut portion);
-        handed = feed_all(out, handed, first(&portion, n), writing);
     }
-    put_number(out, b"links: screen ", handed.screen);
-    put_number(out, b", keyboard ", handed.keyboard);
-    put_number(out, b", modem ", handed.modem);
-    put_number(out, b", socket ", handed.socket);
-    put(out, b" bytes\n");
-    put_links(out, handed.links);
+}
+
+// A group of up to fifteen values. Nearly all are full: those are copied in one go, without a count to look at, which
+// costs less than `Few::of`.
+fn values_of(group: &[u8]) -> Few<15> {
+    match group.first_chunk() {
+        Some(values) => Few {
+            codes: *values,
+            count: 15,
+        },
+        None => Few::of(group),
+    }
+}
+
+// The modules stand one by one, since what is told has the name of each, in the order of the peer's words.
+impl Part for Linking {
+    fn take(&mut self, out: &mut Output, portion: &mut [u8], writing: bool) {
+        remove_parity(portion);
+        for group in portion.chunks(15) {
+            let fed = board_feeding::feed(self.links, values_of(group));
+            self.links = fed.links;
+            let shares = fed.shares;
+            let handed = self.handed;
+            self.handed = Each {
+                screen: sum(handed.screen, shares.screen.count),
+                keyboard: sum(handed.keyboard, shares.keyboard.count),
+                modem: sum(handed.modem, shares.modem.count),
+                socket: sum(handed.socket, shares.socket.count),
+            };
+            if writing {
+                print_lines(out, "screen", shares.screen.bytes());
+                print_lines(out, "keyboard", shares.keyboard.bytes());
+                print_lines(out, "modem", shares.modem.bytes());
+                print_lines(out, "socket", shares.socket.bytes());
+            }
+        }
+    }
+
+    fn tell(&self, out: &mut Output) {
+        let Each {
+            screen,
+            keyboard,
+            modem,
+            socket,
+        } = self.handed;
+        let links = LinksState(self.links);
+        out.print(format_args!(
+            "links: screen {screen}, keyboard {keyboard}, modem {modem}, socket {socket} bytes\n{links}"
+        ));
+    }
 }

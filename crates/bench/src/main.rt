@@ -4,7 +4,7 @@
 // `links`, `screen` and `path`; with `write-` before the last five, everything that is handed out is written too, in
 // order; `memory` writes the line of a process's status that has its peak memory.
 //
-// portions.rt   files read in portions
+// portions.rt   files read in portions, and what a part of the board is to them
 // judging.rt    the judge, and the counts of verdicts
 // receiving.rt  the receiver
 // linking.rt    the links
@@ -13,7 +13,7 @@
 // states.rt     the states of receiver and links as text
 // pages.rt      the state of a screen as text
 // memory.rt     the peak memory of a process
-// texts.rt      texts and numbers on standard output
+// texts.rt      bytes as text
 #![tactic(auto)]
 
 mod boarding;
@@ -27,97 +27,96 @@ mod screening;
 mod states;
 mod texts;
 
-use lent::{first, is, past};
-use std::env::{Env, FillError};
+use boarding::Boarding;
+use judging::Judging;
+use lent::first;
+use linking::Linking;
+use portions::{Reading, play};
+use receiving::Receiving;
+use screening::Screening;
+use std::env::Env;
 use std::fs;
 use std::fs::Files;
 use std::io::{Error, Print, Read, Stderr};
-use system::{Output, arg, fail, path};
-use texts::starts;
+use system::{Output, argument, fail, path};
 
-fn write_usage(err: Stderr) {
-    let _ = err.write_all(b"usage: bench (MODE FILE)...\n");
-}
-
-// Tells a fault of a file, or of what else is named.
-fn tell(mut err: Stderr, what: &[u8], fault: Error) {
-    let _ = err.write_all(b"bench: ");
-    let _ = fail(&mut err, what, fault);
-}
-
-// Plays an open file by a mode, of which `part` is what stands behind `write-`, where it is a writing one.
-fn play(
-    out: &mut Output,
+// What the program writes to. The trial has the same two: what is done with them differs, so that a type for both would
+// be two names.
+#[derive(Drop)]
+struct Streams {
+    out: Output,
     err: Stderr,
-    mode: &[u8],
-    part: &[u8],
-    record: &mut impl Read,
-    writing: bool,
-) {
-    if is(part, b"judge") {
-        judging::judge(out, record, writing);
-    } else if is(part, b"receiver") {
-        receiving::receive(out, record, writing);
-    } else if is(part, b"links") {
-        linking::link(out, record, writing);
-    } else if is(part, b"screen") {
-        screening::show(out, record, writing);
-    } else if is(part, b"path") {
-        boarding::hear(out, record, writing);
-    } else if is(mode, b"read") {
-        portions::read(out, record);
-    } else if is(mode, b"memory") {
-        memory::write_peak(out, record);
-    } else {
-        write_usage(err);
-    }
 }
 
-// Obeys one mode on the file of that name. One that cannot be opened gets a line on standard error.
-fn obey(out: &mut Output, err: Stderr, files: &impl Files, mode: &[u8], name: &[u8]) {
-    let writing = starts(mode, b"write-");
-    let part = if writing { past(mode, 6) } else { mode };
-    match path(name).and_then(|path| fs::open(files, path)) {
-        Ok(mut record) => play(out, err, mode, part, &mut record, writing),
-        Err(fault) => tell(err, name, fault),
+impl Streams {
+    fn write_usage(&self) {
+        let _ = self.err.write_all(b"usage: bench (MODE FILE)...\n");
     }
-}
 
-// Obeys the pair whose mode is argument `i` and whose file is argument `j`.
-fn obey_pair(out: &mut Output, err: Stderr, rt: &(impl Env + Files), i: usize, j: usize) {
-    let mut word = [0u8; 16];
-    let mut path = [0u8; 4096];
-    let k = arg(rt, i, &mut word).unwrap_or(0);
-    match arg(rt, j, &mut path) {
-        Ok(length) => obey(out, err, rt, first(&word, k), first(&path, length)),
-        Err(_) => write_usage(err),
+    // Tells a fault of a file, or of what else is named.
+    fn tell(&mut self, what: &[u8], fault: Error) {
+        let _ = self.err.write_all(b"bench: ");
+        let _ = fail(&mut self.err, what, fault);
     }
-}
 
-// How many arguments there are, the program's own name among them.
-fn argument_count(rt: &impl Env) -> usize {
-    let mut word = [0u8; 1];
-    for i in 0..usize::MAX {
-        if let Err(FillError::NotPresent) = rt.arg(i, &mut word) {
-            return i;
+    // Plays an open file by a mode.
+    fn play_by(&mut self, mode: &[u8], record: &mut impl Read) {
+        let out = &mut self.out;
+        let (part, writing) = match mode.strip_prefix(b"write-") {
+            Some(part) => (part, true),
+            None => (mode, false),
+        };
+        match part {
+            b"judge" => play(Judging::default(), out, record, writing),
+            b"receiver" => play(Receiving::begun(), out, record, writing),
+            b"links" => play(Linking::begun(), out, record, writing),
+            b"screen" => play(Screening::begun(), out, record, writing),
+            b"path" => play(Boarding::begun(), out, record, writing),
+            b"read" if !writing => play(Reading::default(), out, record, writing),
+            b"memory" if !writing => memory::write_peak(out, record),
+            _ => self.write_usage(),
         }
     }
-    usize::MAX
+
+    // Obeys one mode on the file of that name. One that cannot be opened gets a line on standard error.
+    fn obey(&mut self, files: &impl Files, mode: &[u8], name: &[u8]) {
+        match path(name).and_then(|path| fs::open(files, path)) {
+            Ok(mut record) => self.play_by(mode, &mut record),
+            Err(fault) => self.tell(name, fault),
+        }
+    }
+
+    // Obeys the pair whose mode is argument `i` and whose file is argument `j`, where there is a mode. One without a file
+    // makes a pair too, so that its fault is told; a mode too long for the room here is none, as the empty word is.
+    fn obey_pair(&mut self, rt: &(impl Env + Files), i: usize, j: usize) -> Option<()> {
+        let mut word = [0u8; 16];
+        let mut path = [0u8; 4096];
+        let k = argument(rt, i, &mut word).unwrap_or(Some(0))?;
+        match argument(rt, j, &mut path) {
+            Ok(Some(length)) => self.obey(rt, first(&word, k), first(&path, length)),
+            _ => self.write_usage(),
+        }
+        Some(())
+    }
 }
 
-// Obeys the pairs in turn. A mode without a file makes a pair too, so that its fault is told. What could not be written
-// on standard output is told at the end.
+// Obeys the pairs in turn; a loop is to end by itself, so they are counted. What could not be written on standard output
+// is told at the end. The keeper's tool goes over its pairs in the same way; a function for both would have to be handed
+// what each makes of a pair, and be no shorter.
 fn main(rt: HostRuntime) {
-    let err = rt.stderr();
-    let mut out = Output::new(rt.stdout());
-    let pairs = argument_count(&rt) / 2;
-    if pairs == 0 {
-        write_usage(err);
+    let mut streams = Streams {
+        out: Output::new(rt.stdout()),
+        err: rt.stderr(),
+    };
+    for pair in 0..usize::MAX / 2 {
+        if streams.obey_pair(&rt, 2 * pair + 1, 2 * pair + 2).is_none() {
+            if pair == 0 {
+                streams.write_usage();
+            }
+            break;
+        }
     }
-    for i in 0..pairs {
-        obey_pair(&mut out, err, &rt, 2 * i + 1, 2 * i + 2);
-    }
-    if let Err(fault) = out.fault() {
-        tell(err, b"standard output", fault);
+    if let Err(fault) = streams.out.fault() {
+        streams.tell(b"standard output", fault);
     }
 }

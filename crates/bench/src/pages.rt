@@ -1,118 +1,139 @@
 // The state of a screen as text: every cell in seven digits, a row to a line, and the pen.
-use crate::texts::{digit, put, put_bytes, put_number};
-use lent::{add, first, past};
-use screen_attributes::{Attributes, Waiting};
-use screen_cells::Cell;
+use screen_attributes::Attributes;
+use screen_cells::{Cell, Character};
 use screen_page::Screen;
-use screen_pen::{Last, Pen, Spot};
+use screen_pen::{Pen, Spot};
 use screen_sequences::Sequence;
-use system::Output;
+use std::fmt;
 
-// Set, code, ink, ground, flash and inverse.
-fn spelled(cell: Cell) -> [u8; 7] {
-    [
-        digit(cell.character.set),
-        digit(cell.character.code / 16),
-        digit(cell.character.code),
-        digit(cell.ink),
-        digit(cell.ground),
-        digit(cell.flash as u8),
-        digit(cell.inverse as u8),
-    ]
-}
+// Set, code, ink, ground, flash and inverse. The trial writes them so too: see `Hex`.
+#[derive(Clone, Copy)]
+struct Spelled(Cell);
 
-// The seven digits of each of a thousand cells.
-const DIGITS: usize = 7000;
-
-fn spell(cells: [Cell; 1000], text: &mut [u8; DIGITS]) {
-    let mut at = 0;
-    for cell in cells {
-        let seven = spelled(cell);
-        at = add(&seven, text, at);
+impl fmt::Display for Spelled {
+    fn fmt<W: fmt::Write>(&self, f: &mut fmt::Formatter<W>) -> fmt::Result {
+        let set = self.0.character.set;
+        let code = self.0.character.code;
+        let ink = self.0.ink;
+        let ground = self.0.ground;
+        let flash = self.0.flash as u8;
+        let inverse = self.0.inverse as u8;
+        write!(f, "{set:x}{code:02x}{ink:x}{ground:x}{flash}{inverse}")
     }
 }
 
-// A row of forty cells.
-fn put_row(out: &mut Output, text: &[u8; DIGITS], row: u64) {
-    put_number(out, b"row ", row);
-    put(out, b" ");
-    put(out, first(past(text, row_start(row)), 280));
-    put(out, b"\n");
-}
+#[derive(Clone, Copy)]
+struct AttributesState(Attributes);
 
-// Where the digits of a row begin.
-fn row_start(row: u64) -> usize {
-    (row % 25) as usize * 280
-}
-
-fn put_rows(out: &mut Output, cells: [Cell; 1000]) {
-    let mut text = [0u8; DIGITS];
-    spell(cells, &mut text);
-    for row in 0..25 {
-        put_row(out, &text, row);
+impl fmt::Display for AttributesState {
+    fn fmt<W: fmt::Write>(&self, f: &mut fmt::Formatter<W>) -> fmt::Result {
+        let Attributes {
+            set,
+            ink,
+            zone,
+            flash,
+            inverse,
+        } = self.0;
+        let ground = zone.ground;
+        write!(f, ", set {set}, ink {ink}, ground {ground}")?;
+        match zone.waiting {
+            None => f.write_str(", waiting -")?,
+            Some(colour) => write!(f, ", waiting {colour}")?,
+        }
+        let flash = flash as u8;
+        let inverse = inverse as u8;
+        write!(f, ", flash {flash}, inverse {inverse}")
     }
 }
 
-fn put_attributes(out: &mut Output, a: Attributes) {
-    let zone = a.zone;
-    let waiting = zone.waiting;
-    put_number(out, b", set ", a.set as u64);
-    put_number(out, b", ink ", a.ink as u64);
-    put_number(out, b", ground ", zone.ground as u64);
-    match waiting {
-        Waiting::Nothing => put(out, b", waiting -"),
-        Waiting::Ground(colour) => put_number(out, b", waiting ", colour as u64),
+#[derive(Clone, Copy)]
+struct SpotState(Spot);
+
+impl fmt::Display for SpotState {
+    fn fmt<W: fmt::Write>(&self, f: &mut fmt::Formatter<W>) -> fmt::Result {
+        let row = self.0.place.row;
+        let column = self.0.place.column;
+        let attributes = AttributesState(self.0.attributes);
+        write!(f, ": row {row}, column {column}{attributes}")
     }
-    put_number(out, b", flash ", a.flash as u64);
-    put_number(out, b", inverse ", a.inverse as u64);
 }
 
-fn put_spot(out: &mut Output, name: &[u8], spot: Spot) {
-    put(out, name);
-    put_number(out, b": row ", spot.place.row as u64);
-    put_number(out, b", column ", spot.place.column as u64);
-    put_attributes(out, spot.attributes);
-    put(out, b"\n");
-}
+// The character written last.
+#[derive(Clone, Copy)]
+struct LastState(Option<Character>);
 
-fn put_last(out: &mut Output, last: Last) {
-    match last {
-        Last::Never => put(out, b"last -"),
-        Last::Was(character) => {
-            put_number(out, b"last ", character.set as u64);
-            put_bytes(out, b"", &[character.code]);
+impl fmt::Display for LastState {
+    fn fmt<W: fmt::Write>(&self, f: &mut fmt::Formatter<W>) -> fmt::Result {
+        match self.0 {
+            None => f.write_str("-"),
+            Some(character) => {
+                let set = character.set;
+                let code = character.code;
+                write!(f, "{set}{code:02x}")
+            }
         }
     }
 }
 
-fn put_sequence(out: &mut Output, sequence: Sequence) {
-    put(out, b", unfinished ");
-    match sequence {
-        Sequence::Free => put(out, b"-"),
-        Sequence::Escape => put(out, b"esc"),
-        Sequence::Long => put(out, b"long"),
-        Sequence::Control => put(out, b"control"),
-        Sequence::Separator => put(out, b"sep"),
-        Sequence::Repeat => put(out, b"rep"),
-        Sequence::Single => put(out, b"ss2"),
-        Sequence::Address => put(out, b"us"),
-        Sequence::Row(code) => put_bytes(out, b"us ", &[code]),
+#[derive(Clone, Copy)]
+struct SequenceState(Sequence);
+
+impl fmt::Display for SequenceState {
+    fn fmt<W: fmt::Write>(&self, f: &mut fmt::Formatter<W>) -> fmt::Result {
+        match self.0 {
+            Sequence::Free => f.write_str("-"),
+            Sequence::Escape => f.write_str("esc"),
+            Sequence::Long => f.write_str("long"),
+            Sequence::Control => f.write_str("control"),
+            Sequence::Separator => f.write_str("sep"),
+            Sequence::Repeat => f.write_str("rep"),
+            Sequence::Single => f.write_str("ss2"),
+            Sequence::Address => f.write_str("us"),
+            Sequence::Row(code) => write!(f, "us {code:02x}"),
+        }
     }
 }
 
-fn put_pen(out: &mut Output, pen: Pen) {
-    let last = pen.last;
-    let sequence = pen.sequence;
-    put_spot(out, b"pen", pen.here);
-    put_spot(out, b"kept", pen.kept);
-    put_last(out, last);
-    put_sequence(out, sequence);
-    put_number(out, b", shown ", pen.shown as u64);
-    put(out, b"\n");
+#[derive(Clone, Copy)]
+struct PenState(Pen);
+
+impl fmt::Display for PenState {
+    fn fmt<W: fmt::Write>(&self, f: &mut fmt::Formatter<W>) -> fmt::Result {
+        let Pen {
+            here,
+            kept,
+            last,
+            sequence,
+            shown,
+        } = self.0;
+        let here = SpotState(here);
+        let kept = SpotState(kept);
+        let last = LastState(last);
+        let sequence = SequenceState(sequence);
+        let shown = shown as u8;
+        write!(
+            f,
+            "pen{here}\nkept{kept}\nlast {last}, unfinished {sequence}, shown {shown}\n"
+        )
+    }
 }
 
-pub(crate) fn put_screen(out: &mut Output, screen: Screen) {
-    let cells = screen.cells;
-    put_rows(out, cells);
-    put_pen(out, screen.pen);
+// All of a screen.
+#[derive(Clone, Copy)]
+pub(crate) struct Page<'a>(pub(crate) &'a Screen);
+
+impl fmt::Display for Page<'_> {
+    fn fmt<W: fmt::Write>(&self, f: &mut fmt::Formatter<W>) -> fmt::Result {
+        let screen = self.0;
+        for (row, cells) in screen.cells.chunks(40).enumerate() {
+            write!(f, "row {row} ")?;
+            for cell in cells {
+                let seven = Spelled(*cell);
+                write!(f, "{seven}")?;
+            }
+            f.write_str("\n")?;
+        }
+        let pen = PenState(screen.pen);
+        write!(f, "{pen}")
+    }
 }

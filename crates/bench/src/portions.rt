@@ -1,29 +1,53 @@
-// Files read in portions: 4,080 bytes are as many whole blocks as groups of fifteen values. Each mode has its own loop
-// over them, so that its state stays where it is.
-use crate::texts::{put, put_number, sum};
+// Files read in portions, and the parts that take them: 4,080 bytes are as many whole blocks as groups of fifteen values.
+use crate::texts::sum;
 use std::io::Read;
 use system::{Output, read_full};
 
-pub(crate) const PORTION: usize = 4080;
+const PORTION: usize = 4080;
 
-// Removes the parity bit of each byte.
-pub(crate) fn remove_parity(bytes: &mut [u8]) {
-    for i in 0..bytes.len() {
-        bytes[i] = bytes[i] % 128;
-    }
+// A part of the board, or the whole path, at work on a record.
+pub(crate) trait Part: Drop {
+    // Takes a portion; all that is handed out is written where that is wanted.
+    fn take(&mut self, out: &mut Output, portion: &mut [u8], writing: bool);
+
+    // Tells its counts, and the state that it came to.
+    fn tell(&self, out: &mut Output);
 }
 
-// The mode `read`: no more than that, so that it can be taken off from the others.
-pub(crate) fn read(out: &mut Output, record: &mut impl Read) {
+// Plays a record by a part, from the first portion to the end.
+pub(crate) fn play<P: Part>(mut part: P, out: &mut Output, record: &mut impl Read, writing: bool) {
     let mut portion = [0u8; PORTION];
-    let mut bytes = 0;
+    // A loop is to end by itself, and what is read need not: so the portions are counted.
     for _ in 0..u64::MAX {
         let n = read_full(record, &mut portion);
         if n == 0 {
             break;
         }
-        bytes = sum(bytes, n);
+        part.take(out, &mut portion[..n], writing);
     }
-    put_number(out, b"read: ", bytes);
-    put(out, b" bytes\n");
+    part.tell(out);
+}
+
+// Removes the parity bit of each byte.
+pub(crate) fn remove_parity(bytes: &mut [u8]) {
+    for byte in bytes {
+        *byte %= 128;
+    }
+}
+
+// The mode `read`: no more than that, so that it can be taken off from the others.
+#[derive(Clone, Copy, Default)]
+pub(crate) struct Reading {
+    bytes: u64,
+}
+
+impl Part for Reading {
+    fn take(&mut self, _out: &mut Output, portion: &mut [u8], _writing: bool) {
+        self.bytes = sum(self.bytes, portion.len());
+    }
+
+    fn tell(&self, out: &mut Output) {
+        let bytes = self.bytes;
+        out.print(format_args!("read: {bytes} bytes\n"));
+    }
 }

@@ -1,36 +1,40 @@
 // The mode `screen`: the bytes without parity as values, a portion in one call.
-use crate::pages::put_screen;
-use crate::portions::{PORTION, remove_parity};
-use crate::texts::{put, put_number, sum};
-use lent::first;
+use crate::pages::Page;
+use crate::portions::{Part, remove_parity};
+use crate::texts::sum;
 use screen_page::Screen;
-use std::io::Read;
-use system::{Output, read_full};
+use system::Output;
 
-// A portion of values. They are all taken; were they not, the page would show it.
-fn run(out: &mut Output, screen: Screen, values: &[u8], writing: bool) -> Screen {
-    let ran = screen::run(screen, values);
-    let next = ran.screen;
-    if writing {
-        put_screen(out, next);
-    }
-    next
+// A screen, and how many values it got.
+#[derive(Clone, Copy)]
+pub(crate) struct Screening {
+    screen: Screen,
+    values: u64,
 }
 
-pub(crate) fn show(out: &mut Output, record: &mut impl Read, writing: bool) {
-    let mut portion = [0u8; PORTION];
-    let mut screen = Screen::fresh();
-    let mut values = 0;
-    for _ in 0..u64::MAX {
-        let n = read_full(record, &mut portion);
-        if n == 0 {
-            break;
+impl Screening {
+    pub(crate) fn begun() -> Screening {
+        Screening {
+            screen: Screen::fresh(),
+            values: 0,
         }
-        remove_parity(&mut portion);
-        screen = run(out, screen, first(&portion, n), writing);
-        values = sum(values, n);
     }
-    put_number(out, b"screen: ", values);
-    put(out, b" values\n");
-    put_screen(out, screen);
+}
+
+// The values are all taken; were they not, the page would show it.
+impl Part for Screening {
+    fn take(&mut self, out: &mut Output, portion: &mut [u8], writing: bool) {
+        remove_parity(portion);
+        self.screen = screen::run(self.screen, portion).screen;
+        self.values = sum(self.values, portion.len());
+        if writing {
+            out.print(Page(&self.screen));
+        }
+    }
+
+    fn tell(&self, out: &mut Output) {
+        let values = self.values;
+        let page = Page(&self.screen);
+        out.print(format_args!("screen: {values} values\n{page}"));
+    }
 }

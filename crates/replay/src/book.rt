@@ -1,284 +1,187 @@
 // What is told of a record: a line for each block judged and each resumption, and the totals. The book hears nothing by
 // itself: a note of each byte says what it was to the board's own receiver, and the book counts and tells.
-ghost use Rattle.std.specs.Prelude.{◌≤◌, length};
+use crate::hut::Play;
+use crate::texts::{Lines, Streams, Told};
+use line_receiver::Phase;
 
-use crate::sums::{difference, further, grown, sum};
-use crate::texts::{Gathered, Streams, byte_at, flush, gather, tell};
-use line_receiver::{Phase, Receiver};
-
-// The notes that `board_pieces::lines_noted` gives: of a byte that is only held; of the last byte of a block, by its
-// verdict; of a byte dropped while waiting; and of the last code of a resumption.
-const HELD: u8 = 0;
-
-const CLEAN: u8 = 1;
-
-const REPEAT: u8 = 2;
-
-const DROPPED: u8 = 3;
-
-const RESUMED: u8 = 4;
-
-// That of a block mended at bit 0; those of the other bits follow.
-const MENDED: u8 = 128;
-
+// What a byte was to the receiver.
 #[derive(Clone, Copy)]
+enum Note {
+    // It is only held.
+    Held,
+    // The last of a block, by its verdict; one that is mended, at this bit.
+    Clean,
+    Repeat,
+    Mended(u8),
+    // Dropped while waiting.
+    Dropped,
+    // The last code of a resumption.
+    Resumed,
+}
+
+// The notes that `board_pieces::lines_noted` gives are numbers: from 128 on, those of the bits.
+impl From<u8> for Note {
+    fn from(note: u8) -> Note {
+        match note {
+            1 => Note::Clean,
+            2 => Note::Repeat,
+            3 => Note::Dropped,
+            4 => Note::Resumed,
+            128..=255 => Note::Mended(note % 128),
+            _ => Note::Held,
+        }
+    }
+}
+
+// A portion that the board took: its bytes, with those that the receiver held before, a note of each, and the requests
+// that came of them.
+#[derive(Clone, Copy)]
+pub(crate) struct Portion<'a> {
+    pub(crate) held: &'a [u8; 17],
+    pub(crate) bytes: &'a [u8],
+    pub(crate) notes: &'a [u8],
+    pub(crate) requests: &'a [u8],
+}
+
+impl Portion<'_> {
+    // The byte that a bit lies in, as it arrived. The block's last byte stands at this place of the portion; that byte
+    // stands before it there, or it was held before the portion.
+    fn arrived(self, bit: u8, last: usize) -> u8 {
+        let Portion { held, bytes, .. } = self;
+        let place = (bit % 128 / 8) as usize;
+        let back = 16 - place;
+        if back <= last {
+            bytes.get(last - back).copied().unwrap_or(0)
+        } else {
+            held[place]
+        }
+    }
+}
+
+#[derive(Clone, Copy, Default)]
 pub(crate) struct Book {
     // How many bytes the portions before had: the place of the first byte of this one.
-    pub(crate) read: u64,
+    read: u64,
     // That of the block awaited.
-    pub(crate) number: u8,
-    pub(crate) blocks: u64,
-    pub(crate) clean: u64,
-    pub(crate) mended: u64,
-    pub(crate) refused: u64,
-    pub(crate) resumptions: u64,
-    pub(crate) dropped: u64,
-    // How many bytes of this portion's requests are told.
-    pub(crate) asked: usize,
-    pub(crate) told: Gathered,
+    number: u8,
+    blocks: u64,
+    clean: u64,
+    mended: u64,
+    refused: u64,
+    resumptions: u64,
+    dropped: u64,
 }
 
-// A book with nothing in it.
-pub(crate) fn begun() -> Book {
-    let told = Gathered {
-        used: 0,
-        written: true,
-    };
-    Book {
-        read: 0,
-        number: 0,
-        blocks: 0,
-        clean: 0,
-        mended: 0,
-        refused: 0,
-        resumptions: 0,
-        dropped: 0,
-        asked: 0,
-        told,
-    }
-}
-
-// Enters a portion that the board took: a note of each of its bytes, the requests that came of it, and the receiver
-// before it. All that is told of it is written then, so that it stands before what standard error says of the next.
-pub(crate) fn enter_all(
-    streams: Streams,
-    begun: Book,
-    before: Receiver,
-    portion: &[u8],
-    notes: &[u8],
-    requests: &[u8],
-) -> Book {
-    let mut text = [0u8; 4096];
-    let held = before.held;
-    let mut book = begun;
-    let mut i = after_held(notes, 0);
-    while i < notes.len() {
-        book = enter(streams, book, i, &held, portion, notes, requests, &mut text);
-        i = after_held(notes, i + 1);
-    }
-    let told = flush(streams, &text, book.told);
-    book.told = told;
-    book.asked = 0;
-    book.read = grown(book.read, portion.len());
-    book
-}
-
-// The place of the first byte that is not only held, from a place on, or where the notes end.
-fn after_held(notes: &[u8], from: usize) -> usize
-    requires { from ≤ length notes.now }
-    ensures { (from ≤ result) × (result ≤ length notes.now) }
-{
-    let mut at = from;
-    while at < notes.len() && notes[at] == HELD {
-        at += 1;
-    }
-    at
-}
-
-// Enters the byte at a place of its portion.
-fn enter(
-    streams: Streams,
-    book: Book,
-    at: usize,
-    held: &[u8],
-    portion: &[u8],
-    notes: &[u8],
-    requests: &[u8],
-    text: &mut [u8],
-) -> Book {
-    let note = byte_at(notes, at);
-    let place = grown(book.read, at);
-    match note {
-        CLEAN => enter_clean(streams, book, place, text),
-        REPEAT => enter_repeat(streams, book, place, requests, text),
-        DROPPED => enter_dropped(book),
-        RESUMED => enter_resumption(streams, book, place, text),
-        MENDED..=255 => {
-            let bit = note % MENDED;
-            let byte = arrived(bit, at, held, portion);
-            enter_mended(streams, book, place, bit, byte, text)
+impl Book {
+    // Enters a portion. All that is told of it is written then, so that it stands before what standard error says of the
+    // next.
+    pub(crate) fn enter_all(&mut self, streams: Streams, portion: Portion) -> Result<(), Told> {
+        let mut lines = Lines::new(streams);
+        let mut requests = portion.requests;
+        for (at, note) in portion.notes.iter().enumerate() {
+            let place = self.read.saturating_add(at as u64);
+            match Note::from(*note) {
+                Note::Held => {}
+                Note::Clean => self.enter_clean(&mut lines, place)?,
+                Note::Repeat => {
+                    let (request, rest) = requests.split_first_chunk().unwrap_or((&[0; 2], &[]));
+                    requests = rest;
+                    self.enter_repeat(&mut lines, place, *request)?;
+                }
+                Note::Mended(bit) => {
+                    let byte = portion.arrived(bit, at);
+                    self.enter_mended(&mut lines, place, bit, byte)?;
+                }
+                Note::Dropped => self.dropped = self.dropped.saturating_add(1),
+                Note::Resumed => self.enter_resumption(&mut lines, place)?,
+            }
         }
-        _ => book,
+        lines.flush()?;
+        self.read = self.read.saturating_add(portion.bytes.len() as u64);
+        Ok(())
     }
-}
 
-// The byte that a bit lies in, as it arrived. The block's last byte stands at this place of the portion; that byte
-// stands before it there, or it was held before the portion.
-fn arrived(bit: u8, last: usize, held: &[u8], portion: &[u8]) -> u8 {
-    let place = (bit % MENDED / 8) as usize;
-    let back = 16 - place;
-    if back <= last {
-        return byte_at(portion, last - back);
+    // A clean block, whose last byte stands at this place of the record.
+    fn enter_clean(&mut self, lines: &mut Lines, last: u64) -> Result<(), Told> {
+        self.blocks = self.blocks.saturating_add(1);
+        self.clean = self.clean.saturating_add(1);
+        let Book { blocks, number, .. } = *self;
+        let start = start(last);
+        self.number = line_codes::next_number(number);
+        lines.tell(format_args!("block {blocks} at {start}, number {number}: clean\n"))
     }
-    byte_at(held, place)
+
+    // A block to be repeated, with the request that came of it.
+    fn enter_repeat(&mut self, lines: &mut Lines, last: u64, request: [u8; 2]) -> Result<(), Told> {
+        self.blocks = self.blocks.saturating_add(1);
+        self.refused = self.refused.saturating_add(1);
+        let Book { blocks, number, .. } = *self;
+        let start = start(last);
+        let [first, second] = request;
+        lines.tell(format_args!(
+            "block {blocks} at {start}, number {number}: repeat, request {first:02x} {second:02x}\n"
+        ))
+    }
+
+    // The last code of a resumption.
+    fn enter_resumption(&mut self, lines: &mut Lines, place: u64) -> Result<(), Told> {
+        self.resumptions = self.resumptions.saturating_add(1);
+        let number = self.number;
+        lines.tell(format_args!("resumed at {place}, number {number}\n"))
+    }
+
+    // A block mended at this bit, in this byte as it arrived.
+    fn enter_mended(
+        &mut self,
+        lines: &mut Lines,
+        last: u64,
+        bit: u8,
+        byte: u8,
+    ) -> Result<(), Told> {
+        self.blocks = self.blocks.saturating_add(1);
+        self.mended = self.mended.saturating_add(1);
+        let Book { blocks, number, .. } = *self;
+        let start = start(last);
+        let place = bit / 8 + 1;
+        let weight = 1u8 << (bit % 8);
+        let mended = byte ^ weight;
+        self.number = line_codes::next_number(number);
+        lines.tell(format_args!(
+            "block {blocks} at {start}, number {number}: mended, bit {bit} (byte {place}, weight {weight}), {byte:02x} became {mended:02x}\n"
+        ))
+    }
+
+    // Tells the totals, with what the links of the board handed out, and that the record ends while its receiver waits,
+    // where it does so.
+    pub(crate) fn tell_totals(self, streams: Streams, play: &Play) -> Result<(), Told> {
+        let Book {
+            read,
+            blocks,
+            clean,
+            mended,
+            refused,
+            resumptions,
+            dropped,
+            ..
+        } = self;
+        streams.print(format_args!(
+            "blocks {blocks}: {clean} clean, {mended} mended, {refused} to be repeated\nresumptions {resumptions}\n"
+        ))?;
+        let keyboard = play.keyboard;
+        let modem = play.modem;
+        let socket = play.socket;
+        streams.print(format_args!(
+            "bytes {read}, of these {dropped} dropped while waiting\nhanded out: keyboard {keyboard}, modem {modem}, socket {socket} bytes\n"
+        ))?;
+        if let Phase::Waiting(_) = play.board.receiver.phase {
+            let number = play.board.receiver.number;
+            streams.print(format_args!("the record ends while block {number} is awaited\n"))?;
+        }
+        Ok(())
+    }
 }
 
 // The place of a block's first byte, where its last stands at this one.
 fn start(last: u64) -> u64 {
-    difference(last, 16)
-}
-
-// A clean block, whose last byte stands at this place of the record.
-fn enter_clean(streams: Streams, mut book: Book, last: u64, text: &mut [u8]) -> Book {
-    book.blocks = sum(book.blocks, 1);
-    book.clean = sum(book.clean, 1);
-    let told = gather(
-        streams,
-        b"block # at #, number #: clean\n",
-        &[book.blocks, start(last), book.number as u64],
-        text,
-        book.told,
-    );
-    book.told = told;
-    book.number = line_codes::next_number(book.number);
-    book
-}
-
-// A block to be repeated, with the next of the portion's requests, which came of it.
-fn enter_repeat(
-    streams: Streams,
-    mut book: Book,
-    last: u64,
-    requests: &[u8],
-    text: &mut [u8],
-) -> Book {
-    book.blocks = sum(book.blocks, 1);
-    book.refused = sum(book.refused, 1);
-    let asked = book.asked;
-    let told = gather(
-        streams,
-        b"block # at #, number #: repeat, request % %\n",
-        &[
-            book.blocks,
-            start(last),
-            book.number as u64,
-            byte_at(requests, asked) as u64,
-            byte_at(requests, further(asked, 1)) as u64,
-        ],
-        text,
-        book.told,
-    );
-    book.told = told;
-    book.asked = further(asked, 2);
-    book
-}
-
-fn enter_dropped(mut book: Book) -> Book {
-    book.dropped = sum(book.dropped, 1);
-    book
-}
-
-// The last code of a resumption.
-fn enter_resumption(streams: Streams, mut book: Book, place: u64, text: &mut [u8]) -> Book {
-    book.resumptions = sum(book.resumptions, 1);
-    let told = gather(
-        streams,
-        b"resumed at #, number #\n",
-        &[place, book.number as u64],
-        text,
-        book.told,
-    );
-    book.told = told;
-    book
-}
-
-// The byte with the bit of this weight changed.
-fn flipped(byte: u8, weight: u8) -> u8 {
-    byte ^ weight
-}
-
-// A block mended at this bit, in this byte as it arrived.
-fn enter_mended(
-    streams: Streams,
-    mut book: Book,
-    last: u64,
-    bit: u8,
-    byte: u8,
-    text: &mut [u8],
-) -> Book {
-    let weight = 1u8 << (bit % 8);
-    let mended = flipped(byte, weight);
-    book.blocks = sum(book.blocks, 1);
-    book.mended = sum(book.mended, 1);
-    let told = gather(
-        streams,
-        b"block # at #, number #: mended, bit # (byte #, weight #), % became %\n",
-        &[
-            book.blocks,
-            start(last),
-            book.number as u64,
-            bit as u64,
-            (bit / 8) as u64 + 1,
-            weight as u64,
-            byte as u64,
-            mended as u64,
-        ],
-        text,
-        book.told,
-    );
-    book.told = told;
-    book.number = line_codes::next_number(book.number);
-    book
-}
-
-// Tells the totals, with what the links of the board handed out, and that the record ends while its receiver waits,
-// where it does so: whether all is written.
-pub(crate) fn tell_totals(
-    streams: Streams,
-    book: Book,
-    receiver: Receiver,
-    keyboard: u64,
-    modem: u64,
-    socket: u64,
-) -> bool {
-    let told = book.told;
-    let blocks = tell(
-        streams,
-        b"blocks #: # clean, # mended, # to be repeated\nresumptions #\n",
-        &[
-            book.blocks,
-            book.clean,
-            book.mended,
-            book.refused,
-            book.resumptions,
-        ],
-        told.written,
-    );
-    let bytes = tell(
-        streams,
-        b"bytes #, of these # dropped while waiting\nhanded out: keyboard #, modem #, socket # bytes\n",
-        &[book.read, book.dropped, keyboard, modem, socket],
-        blocks,
-    );
-    let phase = receiver.phase;
-    let Phase::Waiting(_) = phase else {
-        return bytes;
-    };
-    let number = receiver.number as u64;
-    tell(
-        streams,
-        b"the record ends while block # is awaited\n",
-        &[number],
-        bytes,
-    )
+    last.saturating_sub(16)
 }

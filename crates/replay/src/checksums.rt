@@ -6,32 +6,22 @@
 const POLYNOMIAL: u64 = 0xc96c_5795_d787_0f42;
 
 // Of no bytes.
-pub(crate) fn empty() -> u64 {
-    u64::MAX
-}
+pub(crate) const EMPTY: u64 = u64::MAX;
 
 // Of so many bytes more.
 pub(crate) fn extended(begun: u64, bytes: &[u8]) -> u64 {
-    let mut sum = begun;
-    let mut i = 0;
-    while i < bytes.len() {
-        sum = divided(sum, bytes[i]);
-        i += 1;
-    }
-    sum
+    bytes.iter().fold(begun, |sum, byte| divided(sum, *byte))
 }
 
 // Eight steps of the division, for the bits of a byte.
 fn divided(sum: u64, byte: u8) -> u64 {
-    let two = step(step(sum ^ (byte as u64)));
-    let four = step(step(two));
-    let six = step(step(four));
-    step(step(six))
+    (0..8).fold(sum ^ byte as u64, |sum, _| step(sum))
 }
 
 fn step(sum: u64) -> u64 {
     if sum % 2 == 0 {
-        return sum >> 1;
+        sum >> 1
+    } else {
+        (sum >> 1) ^ POLYNOMIAL
     }
-    (sum >> 1) ^ POLYNOMIAL
 }

@@ -2,16 +2,15 @@
 // blocks of values, all in the format of docs/RECORD.md. Its arguments are pairs of a command and a file, obeyed in
 // turn.
 //
-// files.rt       files read in portions, and the lines on standard error
+// texts.rt       what the program writes
+// files.rt       files read in portions
 // book.rt        what is told of each block and resumption, and the totals
 // hut.rt         the board that plays a record
 // rows.rt        the page as lines of text
-// characters.rt  a cell's character as UTF-8
+// characters.rt  a cell's character as a point of Unicode
 // records.rt     the commands that play a record, to its end
 // blocks.rt      the command that makes blocks of a file of values
-// texts.rt       texts put together in lent memory
 // checksums.rt   a number that tells two readings of a file apart
-// sums.rt        sums and differences that stay within their type
 #![tactic(auto)]
 
 mod blocks;
@@ -22,87 +21,89 @@ mod files;
 mod hut;
 mod records;
 mod rows;
-mod sums;
 mod texts;
 
-use files::{complain, fail};
-use lent::{first, is};
-use std::env::{Env, FillError};
-use std::io::Stderr;
+use book::Book;
+use lent::first;
+use std::env::Env;
+use std::fs;
 use std::rt::Files;
-use std::{fs, str};
+use system::{argument, path};
 use texts::Streams;
 
-fn write_usage(err: Stderr) {
-    let _ = err.write_all(b"usage: replay (replay RECORD | show RECORD | send VALUES)...\n");
+// A command, by its whole word, so that one too long for the room here is none.
+#[derive(Clone, Copy)]
+enum Command {
+    Replay,
+    Show,
+    Send,
 }
 
-// Obeys one command on the file of that name. One that cannot be opened gets a line on standard error.
-fn obey(rt: &impl Files, streams: Streams, command: &[u8], name: &[u8]) {
-    let telling = is(command, b"replay");
-    let sending = is(command, b"send");
-    if !telling && !sending && !is(command, b"show") {
-        write_usage(streams.err);
-        return;
+fn command_of(word: &[u8]) -> Option<Command> {
+    match word {
+        b"replay" => Some(Command::Replay),
+        b"show" => Some(Command::Show),
+        b"send" => Some(Command::Send),
+        _ => None,
     }
-    let Ok(path) = str::from_utf8(name) else {
-        complain(streams.err, name, b": its name is not UTF-8\n", &[]);
+}
+
+fn write_usage(streams: Streams) {
+    let _ = streams.err.write_all(
+        b"usage: replay (replay RECORD | show RECORD | send VALUES)...\n",
+    );
+}
+
+// Obeys one command on the file that is named. One that cannot be opened gets a line on standard error.
+fn obey(rt: &impl Files, streams: Streams, word: &[u8]) {
+    let Some(command) = command_of(word) else {
+        write_usage(streams);
         return;
     };
-    match fs::open(rt, path) {
+    match path(streams.name).and_then(|path| fs::open(rt, path)) {
         Ok(mut file) => {
-            if sending {
-                blocks::send(&mut file, streams, name);
-            } else {
-                records::play(&mut file, streams, name, telling);
-            }
+            let _ = match command {
+                Command::Replay => records::play(&mut file, streams, Some(Book::default())),
+                Command::Show => records::play(&mut file, streams, None),
+                Command::Send => blocks::send(&mut file, streams),
+            };
         }
-        Err(error) => fail(streams.err, name, error),
+        Err(fault) => {
+            let _ = streams.fail(fault);
+        }
     }
 }
 
-// Obeys the pair whose command is argument `i` and whose file is argument `j`. A command is known by its whole word, so
-// that one too long for the room here is none.
-fn obey_pair<R: Env + Files>(rt: &R, streams: Streams, i: usize, j: usize) {
+// Obeys the pair whose command is argument `i` and whose file is argument `j`, where there is a command. One without a file
+// makes a pair too, so that its fault is told; a command too long for the room here is none, as the empty word is.
+fn obey_pair<R: Env + Files>(rt: &R, streams: Streams, i: usize, j: usize) -> Option<()> {
     let mut word = [0u8; 8];
     let mut path = [0u8; 4096];
-    let k = rt.arg(i, &mut word).unwrap_or(0);
-    match rt.arg(j, &mut path) {
-        Ok(length) => obey(rt, streams, first(&word, k), first(&path, length)),
-        Err(FillError::NotPresent) => write_usage(streams.err),
-        Err(FillError::TooLong) => complain(
-            streams.err,
-            b"the name of a file",
-            b": File name too long\n",
-            &[],
-        ),
-    }
-}
-
-// How many arguments there are, the program's own name among them.
-fn argument_count(rt: &impl Env) -> usize {
-    let mut word = [0u8; 1];
-    for i in 0..usize::MAX {
-        if let Err(FillError::NotPresent) = rt.arg(i, &mut word) {
-            return i;
+    let k = argument(rt, i, &mut word).unwrap_or(Some(0))?;
+    match argument(rt, j, &mut path) {
+        Ok(Some(length)) => obey(rt, streams.of(first(&path, length)), first(&word, k)),
+        Ok(None) => write_usage(streams),
+        Err(_) => {
+            let _ = streams.complain("File name too long");
         }
     }
-    usize::MAX
+    Some(())
 }
 
-// Obeys the pairs in turn. A command without a file makes a pair too, so that its fault is told.
+// Obeys the pairs in turn; a loop is to end by itself, so they are counted. The bench has this loop too: what each says of
+// a pair that is wrong differs.
 fn main(rt: HostRuntime) {
     let streams = Streams {
         out: rt.stdout(),
         err: rt.stderr(),
+        name: b"the name of a file",
     };
-    let pairs = argument_count(&rt) / 2;
-    if pairs == 0 {
-        write_usage(streams.err);
-    }
-    let mut i = 0;
-    while i < pairs {
-        obey_pair(&rt, streams, 2 * i + 1, 2 * i + 2);
-        i += 1;
+    for pair in 0..usize::MAX / 2 {
+        if obey_pair(&rt, streams, 2 * pair + 1, 2 * pair + 2).is_none() {
+            if pair == 0 {
+                write_usage(streams);
+            }
+            break;
+        }
     }
 }

@@ -1,123 +1,87 @@
 // The page as lines of text: with the numbers of its rows and the cursor, or in the colours of a terminal.
-use crate::characters::add_character;
-use crate::texts::{Streams, put, tell};
-use lent::{add, first};
+use crate::characters::point;
+use crate::texts::{Streams, Told};
 use screen_cells::Cell;
-use screen_page::{Cursor, Read, Screen};
+use screen_page::{Cursor, Screen};
+use std::fmt;
 
-// The start of what sets a terminal to a cell's looks: its colours, of which there are eight.
-fn colours(cell: Cell) -> [u8; 9] {
-    let mut text = *b"\x1b[0;30;40";
-    text[5] = b'0' + cell.ink % 8;
-    text[8] = b'0' + cell.ground % 8;
-    text
-}
+// What sets a terminal to a cell's looks. There are eight colours.
+#[derive(Clone, Copy)]
+struct Looks(Cell);
 
-// Adds what sets a terminal to a cell's looks; of a mark that it lacks no character is added.
-fn add_looks(cell: Cell, text: &mut [u8], used: usize) -> usize {
-    let start = colours(cell);
-    let flash = if cell.flash { 2 } else { 0 };
-    let inverse = if cell.inverse { 2 } else { 0 };
-    let mut at = add(&start, text, used);
-    at = add(first(b";5", flash), text, at);
-    at = add(first(b";7", inverse), text, at);
-    add(b"m", text, at)
-}
-
-// Adds a cell's character, after its looks where they are to be set.
-fn add_cell(cell: Cell, set: bool, text: &mut [u8], used: usize) -> usize {
-    if set {
-        let at = add_looks(cell, text, used);
-        return add_character(cell.character, text, at);
+impl fmt::Display for Looks {
+    fn fmt<W: fmt::Write>(&self, f: &mut fmt::Formatter<W>) -> fmt::Result {
+        let ink = self.0.ink % 8;
+        let ground = self.0.ground % 8;
+        let flash = if self.0.flash { ";5" } else { "" };
+        let inverse = if self.0.inverse { ";7" } else { "" };
+        write!(f, "\x1b[0;3{ink};4{ground}{flash}{inverse}m")
     }
-    add_character(cell.character, text, used)
 }
 
-// The cell that was read. A screen that a board hands back is never broken, and the places asked for here are on it;
-// were it otherwise, a question mark would show it.
-fn found(read: Read) -> Cell {
-    match read {
-        Read::There(cell) => cell,
-        Read::Off | Read::Broken => {
-            let mut cell = screen_cells::blank();
-            cell.character.code = b'?';
-            cell
+// The cell at a place. A screen that a board hands back is never broken, and the places asked for here are on it; were it
+// otherwise, a question mark would show it.
+fn cell_at(screen: &Screen, row: u8, column: u8) -> Cell {
+    if let Ok(Some(cell)) = screen.cell(row, column) {
+        return cell;
+    }
+    let mut cell = screen_cells::blank();
+    cell.character.code = b'?';
+    cell
+}
+
+// The forty characters of a row; in colours, what sets them stands wherever they change.
+#[derive(Clone, Copy)]
+struct Row<'a> {
+    screen: &'a Screen,
+    number: u8,
+    coloured: bool,
+}
+
+impl fmt::Display for Row<'_> {
+    fn fmt<W: fmt::Write>(&self, f: &mut fmt::Formatter<W>) -> fmt::Result {
+        let mut before = None;
+        for column in 1..=40 {
+            let cell = cell_at(self.screen, self.number, column);
+            let changed = match before {
+                Some(before) => !screen_cells::look_alike(before, cell),
+                None => true,
+            };
+            if self.coloured && changed {
+                write!(f, "{}", Looks(cell))?;
+            }
+            write!(f, "{}", point(cell.character))?;
+            before = Some(cell);
+        }
+        Ok(())
+    }
+}
+
+// Writes the rows, a line each.
+pub(crate) fn write_rows(streams: Streams, screen: &Screen, coloured: bool) -> Result<(), Told> {
+    for number in 0..25 {
+        let row = Row {
+            screen,
+            number,
+            coloured,
+        };
+        if coloured {
+            streams.print(format_args!("{row}\x1b[0m\n"))?;
+        } else {
+            streams.print(format_args!("row {number:>2} |{row}|\n"))?;
         }
     }
-}
-
-// Adds the forty characters of a row; in colours, what sets them stands wherever they change.
-fn add_row(screen: Screen, row: u8, coloured: bool, text: &mut [u8], used: usize) -> usize {
-    let mut at = used;
-    let mut before = screen_cells::blank();
-    let mut column = 0;
-    while column < 40 {
-        let cell = found(screen.cell(row, column + 1));
-        let changed = column == 0 || !screen_cells::look_alike(before, cell);
-        at = add_cell(cell, coloured && changed, text, at);
-        before = cell;
-        column += 1;
-    }
-    at
-}
-
-// The first of the two characters of a row's number.
-fn tens(row: u8) -> u8 {
-    if row < 10 {
-        return b' ';
-    }
-    b'0' + row / 10 % 10
-}
-
-// What stands before a row's characters.
-fn frame(row: u8) -> [u8; 8] {
-    let mut text = *b"row    |";
-    text[4] = tens(row);
-    text[5] = b'0' + row % 10;
-    text
-}
-
-// A row as a line, within its frame.
-fn add_line(screen: Screen, row: u8, coloured: bool, text: &mut [u8]) -> usize {
-    if coloured {
-        let at = add_row(screen, row, true, text, 0);
-        return add(b"\x1b[0m\n", text, at);
-    }
-    let start = frame(row);
-    let mut at = add(&start, text, 0);
-    at = add_row(screen, row, false, text, at);
-    add(b"|\n", text, at)
-}
-
-// Writes the rows, a line each: whether all is written. A row takes the most in colours, where each cell may have
-// fourteen bytes before its character.
-pub(crate) fn write_rows(streams: Streams, screen: Screen, coloured: bool, begun: bool) -> bool {
-    let mut written = begun;
-    let mut row = 0;
-    while row < 25 {
-        let mut text = [0u8; 800];
-        let at = add_line(screen, row, coloured, &mut text);
-        written = put(streams, &text, at, written);
-        row += 1;
-    }
-    written
+    Ok(())
 }
 
 // Writes the line on the cursor. A screen that a board hands back is never broken.
-pub(crate) fn write_cursor(streams: Streams, cursor: Cursor, written: bool) -> bool {
-    match cursor {
-        Cursor::Broken => written,
-        Cursor::Hidden(at) => tell(
-            streams,
-            b"cursor: row #, column #, hidden\n",
-            &[at.row as u64, at.column as u64],
-            written,
-        ),
-        Cursor::Shown(at) => tell(
-            streams,
-            b"cursor: row #, column #, shown\n",
-            &[at.row as u64, at.column as u64],
-            written,
-        ),
-    }
+pub(crate) fn write_cursor(streams: Streams, screen: &Screen) -> Result<(), Told> {
+    let (at, shown) = match screen.cursor() {
+        Ok(Cursor::Hidden(at)) => (at, "hidden"),
+        Ok(Cursor::Shown(at)) => (at, "shown"),
+        Err(_) => return Ok(()),
+    };
+    let row = at.row;
+    let column = at.column;
+    streams.print(format_args!("cursor: row {row}, column {column}, {shown}\n"))
 }

@@ -1,128 +1,136 @@
-// Texts put together in lent memory, which has room for the longest: what does not fit is left out.
-use crate::files::fail;
-use crate::sums::further;
+// What the program writes. A line on standard error that tells a fault begins with the program's name, and one that says
+// how far a file is with two dots. None begins with a file's name, so that no name can make a fault look like the other.
 use lent::{add, first};
-use std::fmt::InlineText;
-use std::io::{Stderr, Stdout};
+use std::fmt::{Display, InlineText};
+use std::io;
+use std::io::{Error, Print, Stderr, Stdout};
 
-// What the program writes to.
+// What failed is told on standard error already.
 #[derive(Clone, Copy)]
-pub(crate) struct Streams {
+pub(crate) struct Told;
+
+// What the program writes to, and the name of what it writes of.
+#[derive(Clone, Copy)]
+pub(crate) struct Streams<'a> {
     pub(crate) out: Stdout,
     pub(crate) err: Stderr,
+    pub(crate) name: &'a [u8],
 }
 
-// The bytes of it from one place to another, or none where it has no such places.
-fn part(s: &[u8], from: usize, to: usize) -> &[u8] {
-    if from <= to && to <= s.len() {
-        return &s[from..to];
-    }
-    &s[0..0]
+// As many bytes as may be told of a file in a line on standard error, and as many as such a line may have, with a name of
+// the longest.
+const WORDS: usize = 140;
+
+const LONGEST: usize = 4096 + 160;
+
+// How far a file is between two lines that say so.
+const STRIDE: u64 = 1048576;
+
+// A byte of a name as it is shown: of a control, as a line break is one, a question mark, so that a line stays one.
+fn shown(byte: u8) -> u8 {
+    if byte < 32 || byte == 127 { b'?' } else { byte }
 }
 
-// The byte at a place, 0 where there is none.
-pub(crate) fn byte_at(s: &[u8], at: usize) -> u8 {
-    if at < s.len() {
-        return s[at];
+impl<'a> Streams<'a> {
+    // The same for what has another name.
+    pub(crate) fn of(self, name: &'a [u8]) -> Streams<'a> {
+        Streams { name, ..self }
     }
-    0
-}
 
-// Adds a number as its mark in a template asks: two hex digits for `%`, and decimal for `#`.
-fn add_number(mark: u8, n: u64, text: &mut [u8], used: usize) -> usize {
-    if mark == b'%' {
-        let digits = InlineText::<16>::of(format_args!("{n:02x}"));
-        return add(digits.as_str().as_bytes(), text, used);
+    // Puts what a line begins with and the name, as it is shown, at the start of a text.
+    fn begin(self, start: &[u8], text: &mut [u8; LONGEST]) -> usize {
+        let mut used = add(start, text, 0);
+        for byte in self.name {
+            used = add(&[shown(*byte)], text, used);
+        }
+        used
     }
-    let digits = InlineText::<20>::of(n);
-    add(digits.as_str().as_bytes(), text, used)
-}
 
-// The place of the first mark of a template from a place on, or where it ends.
-fn mark_after(template: &[u8], from: usize) -> usize {
-    let mut at = from;
-    while at < template.len() && template[at] != b'#' && template[at] != b'%' {
-        at += 1;
+    // Writes a line on standard error. Where that fails, nobody can be told.
+    fn say<D: Display + Drop>(self, start: &[u8], words: D) {
+        let mut text = [0u8; LONGEST];
+        let begun = self.begin(start, &mut text);
+        let words = InlineText::<WORDS>::of(words);
+        let used = add(words.as_str().as_bytes(), &mut text, begun);
+        let _ = self.err.write_all(first(&text, used));
     }
-    at
-}
 
-// Adds a template to a text, and the numbers that stand in it, in turn: `#` stands for a number in decimal, `%` for the
-// two hex digits of a byte. What stands between two of them is added in one go.
-pub(crate) fn compose(template: &[u8], numbers: &[u64], text: &mut [u8], begun: usize) -> usize {
-    let mut used = begun;
-    let mut from = 0;
-    let mut next = 0;
-    while next < numbers.len() {
-        let mark = mark_after(template, from);
-        used = add(part(template, from, mark), text, used);
-        used = add_number(byte_at(template, mark), numbers[next], text, used);
-        from = further(mark, 1);
-        next += 1;
+    // Tells a fault of the file.
+    pub(crate) fn complain<D: Display + Drop>(self, words: D) -> Told {
+        self.say(b"replay: ", format_args!(": {words}\n"));
+        Told
     }
-    add(part(template, from, template.len()), text, used)
-}
 
-// Writes the first `used` bytes of a text on standard output, unless something before them could not be written:
-// whether all is written so far. The first failure gets a line on standard error.
-pub(crate) fn put(streams: Streams, text: &[u8], used: usize, written: bool) -> bool {
-    if !written {
-        return false;
+    // Tells a fault of it as the system says it.
+    pub(crate) fn fail(mut self, fault: Error) -> Told {
+        let mut text = [0u8; LONGEST];
+        let used = self.begin(b"replay: ", &mut text);
+        let _ = system::fail(&mut self.err, first(&text, used), fault);
+        Told
     }
-    match streams.out.write_all(first(text, used)) {
-        Ok(()) => true,
-        Err(error) => {
-            fail(streams.err, b"standard output", error);
-            false
+
+    // Says how far the file is where `more` bytes after the first `before` led past a stride.
+    pub(crate) fn show_progress(self, before: u64, more: usize) {
+        let strides = before.saturating_add(more as u64) / STRIDE;
+        if before / STRIDE != strides {
+            let read = strides * STRIDE;
+            self.say(b".. ", format_args!(": {read} bytes read\n"));
         }
     }
+
+    // What is tried on standard output; a failure is told.
+    fn told(self, written: io::Result<()>) -> Result<(), Told> {
+        written.map_err(|fault| self.of(b"standard output").fail(fault))
+    }
+
+    // Writes a text on standard output.
+    pub(crate) fn print<D: Display + Drop>(self, text: D) -> Result<(), Told> {
+        self.told(self.out.print(text))
+    }
+
+    // Writes bytes there.
+    pub(crate) fn put(self, bytes: &[u8]) -> Result<(), Told> {
+        self.told(self.out.write_all(bytes))
+    }
 }
 
-// No line that is told is longer.
+// No line that is gathered is longer.
 const LINE: usize = 400;
 
-// Writes a template with its numbers on standard output, as `put` does.
-pub(crate) fn tell(streams: Streams, template: &[u8], numbers: &[u64], written: bool) -> bool {
-    let mut text = [0u8; LINE];
-    let used = compose(template, numbers, &mut text, 0);
-    put(streams, &text, used, written)
+const ROOM: usize = 4096;
+
+// Lines gathered for standard output, so that many are written at once. Not a `Few`: its places past the bytes are 0, so
+// that they would have to be cleared whenever what is gathered is written.
+#[derive(Drop)]
+pub(crate) struct Lines<'a> {
+    streams: Streams<'a>,
+    text: [u8; ROOM],
+    used: usize,
 }
 
-// Lines gathered in lent memory, so that many are written at once: how many bytes they are, and whether all before them
-// is written.
-#[derive(Clone, Copy)]
-pub(crate) struct Gathered {
-    pub(crate) used: usize,
-    pub(crate) written: bool,
-}
-
-// Writes what is gathered, as `put` does.
-pub(crate) fn flush(streams: Streams, text: &[u8], gathered: Gathered) -> Gathered {
-    Gathered {
-        used: 0,
-        written: put(streams, text, gathered.used, gathered.written),
+impl<'a> Lines<'a> {
+    pub(crate) fn new(streams: Streams<'a>) -> Lines<'a> {
+        Lines {
+            streams,
+            text: [0; ROOM],
+            used: 0,
+        }
     }
-}
 
-// The same where a line more might not fit.
-fn make_room(streams: Streams, text: &[u8], gathered: Gathered) -> Gathered {
-    if text.len() >= LINE && gathered.used <= text.len() - LINE {
-        return gathered;
+    // Adds a line. Where it might not fit, what is gathered is written first.
+    pub(crate) fn tell<D: Display + Drop>(&mut self, line: D) -> Result<(), Told> {
+        if self.used > ROOM - LINE {
+            self.flush()?;
+        }
+        let line = InlineText::<LINE>::of(line);
+        self.used = add(line.as_str().as_bytes(), &mut self.text, self.used);
+        Ok(())
     }
-    flush(streams, text, gathered)
-}
 
-// Adds a template with its numbers to what is gathered.
-pub(crate) fn gather(
-    streams: Streams,
-    template: &[u8],
-    numbers: &[u64],
-    text: &mut [u8],
-    begun: Gathered,
-) -> Gathered {
-    let ready = make_room(streams, text, begun);
-    Gathered {
-        used: compose(template, numbers, text, ready.used),
-        written: ready.written,
+    // Writes what is gathered.
+    pub(crate) fn flush(&mut self) -> Result<(), Told> {
+        let used = self.used;
+        self.used = 0;
+        self.streams.put(first(&self.text, used))
     }
 }

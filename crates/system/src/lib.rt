@@ -2,19 +2,16 @@
 // full portions, and the program's arguments.
 #![tactic(auto)]
 
-ghost use Rattle.std.specs.Prelude.{◌≡◌, ◌≤◌, ◌++◌, ℕ, List, length, take, codes, None, Some, IsSome, IsUtf8, MatchResult, OnOk};
-ghost use Rattle.std.specs.Io.{ReadsAtMost};
+ghost use Rattle.std.specs.Prelude.{◌≡◌, ◌≤◌, ◌++◌, ℕ, List, length, take, codes, None, Some, IsSome, IfSome, IfOk, IsUtf8, MatchResult, OnOk};
 ghost use Rattle.std.specs.Io.KnownBytes.{Appends, Consumes};
 ghost use Rattle.system.specs.Faults.{fault_of};
 
 use std::env::{Env, FillError};
-use std::fmt::InlineText;
+use std::fmt::{Display, InlineText};
 use std::io::{Error, ErrorKind, Print, Read, Stdout, Write};
 use std::{io, str};
 
-// The system's numbers for an argument that is not there, and for one that is longer than its room.
-const INVALID: i32 = 22;
-
+// The system's number for an argument that is longer than its room.
 const TOO_LONG: i32 = 36;
 
 // Standard output, written piece by piece. From the first piece that could not be written on, nothing more is, until
@@ -40,11 +37,12 @@ impl Output {
         }
     }
 
-    pub fn print_decimal(&mut self, n: u64)
+    // A number, or any other value, as it is displayed.
+    pub fn print<D: Display + Drop>(&mut self, value: D)
         ensures { IsSome (fault_of self.old) → self.new ≡ self.old }
     {
         if self.fault.is_none() {
-            self.fault = self.to.print(n).err();
+            self.fault = self.to.print(value).err();
         }
     }
 
@@ -75,46 +73,62 @@ pub fn fail<W: Write>(err: &mut W, what: &[u8], fault: Error) -> io::Result<()>
 
 // What the system says of a fault: its words, without the number that std puts behind them.
 fn words(said: &str) -> &str {
-    match said.find(" (os error ") {
-        Some(end) => &said[..end],
-        None => said,
-    }
+    said.split_once(" (os error ")
+        .map_or(said, |(words, _)| words)
 }
 
 // A file's name as text, by which alone std opens a file.
 pub fn path(name: &[u8]) -> io::Result<&str>
     ensures { MatchResult result (λ path. (path.now ≡ name.now) × IsUtf8 name.now) (λ _. ¬ (IsUtf8 name.now)) }
 {
-    match str::from_utf8(name) {
-        Ok(path) => Ok(path),
-        Err(_) => Err(Error::new(ErrorKind::InvalidInput, "its name is not UTF-8")),
-    }
+    str::from_utf8(name).map_err(|_| Error::new(ErrorKind::InvalidInput, "its name is not UTF-8"))
 }
 
-// Reads until `buf` is full, the input ends or a read fails: how many bytes it put at the start of `buf`. They are those
-// that it read, and none is lost.
+// What was read into memory: how many bytes, and the fault that ended it, where one did. A count, here and in `argument`,
+// and not the part of the memory itself: `bytes` says what the memory holds after the call, and of a part that is handed
+// back only a clause whose proof is written by hand would.
+#[derive(Drop)]
+pub struct Filled {
+    pub count: usize,
+    pub fault: io::Result<()>,
+}
+
+// Reads until `buf` is full, the input ends or a read fails, and puts what it reads at the start of `buf`: none of it is
+// lost. A read gives as many bytes as it likes, so that no range of the library says where the next one begins.
+pub fn fill<R: Read>(from: &mut R, buf: &mut [u8]) -> Filled
+    ensures bound { result.count ≤ length buf.new }
+    ensures bytes { Consumes (R.remaining from.old) (R.remaining from.new) (take result.count buf.new) }
+{
+    let mut count = 0;
+    let mut fault = Ok(());
+    while count < buf.len() {
+        match from.read(&mut buf[count..]) {
+            Ok(0) => break,
+            Ok(n) => count += n,
+            Err(error) => {
+                fault = Err(error);
+                break;
+            }
+        }
+    }
+    Filled { count, fault }
+}
+
+// The same where no fault is told: how many bytes it put at the start of `buf`.
 pub fn read_full<R: Read>(from: &mut R, buf: &mut [u8]) -> usize
     ensures bound { result ≤ length buf.new }
     ensures bytes { Consumes (R.remaining from.old) (R.remaining from.new) (take result buf.new) }
 {
-    let mut done = 0;
-    while done < buf.len() {
-        match from.read(&mut buf[done..]) {
-            Ok(0) => return done,
-            Ok(n) => done += n,
-            Err(_) => return done,
-        }
-    }
-    done
+    fill(from, buf).count
 }
 
-// Puts argument `i` at the start of `buf`: its length, or why it is not all there.
-pub fn arg(env: &impl Env, i: usize, buf: &mut [u8]) -> io::Result<usize>
-    ensures { ReadsAtMost result buf.new }
+// Puts argument `i` at the start of `buf`: its length, none where there is no such argument, or why it is not all there.
+pub fn argument(env: &impl Env, i: usize, buf: &mut [u8]) -> io::Result<Option<usize>>
+    ensures { IfOk result (λ found. IfSome found (λ n. n ≤ length buf.new)) }
 {
     match env.arg(i, buf) {
-        Ok(n) => Ok(n),
-        Err(FillError::NotPresent) => Err(Error::from_raw_os_error(INVALID)),
+        Ok(n) => Ok(Some(n)),
+        Err(FillError::NotPresent) => Ok(None),
         Err(FillError::TooLong) => Err(Error::from_raw_os_error(TOO_LONG)),
     }
 }

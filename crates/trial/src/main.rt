@@ -2,9 +2,9 @@
 // format of docs/TRIAL.md. With file names as arguments it runs those scripts in turn, each from the start state; with
 // none it reads standard input.
 //
-// lines.rt      a script cut into lines
-// words.rt      the parts of a text, and the bytes and numbers that words name
-// parts.rt      parts of lent memory
+// lines.rt      a line, put together from the portions of a script
+// words.rt      the words of a line, what they name, and bytes as words
+// numbering.rt  the paper's number of each answer
 // blocks.rt     the commands of the block code
 // receiving.rt  the commands of the line receiver
 // screening.rt  the commands of the screen
@@ -22,7 +22,7 @@ mod boarding;
 mod lines;
 mod linking;
 mod loading;
-mod parts;
+mod numbering;
 mod piecing;
 mod receiving;
 mod screening;
@@ -34,130 +34,151 @@ mod words;
 use board::Board;
 use lent::first;
 use line_receiver::Receiver;
-use lines::{At, LONGEST};
+use lines::{LONGEST, Line};
 use links::Links;
 use screen_page::Screen;
-use std::env::{Env, FillError};
-use std::fs;
+use std::env::Env;
 use std::fs::Files;
 use std::io::{Read, Stderr};
-use system::{Output, arg, fail, path};
-use words::{NONE, after, part, place_among};
+use std::{fs, io, str};
+use system::{Output, argument, fail, path};
+use words::Parts;
 
-// Whether a line gets an answer: an empty one and a remark do not, however long.
-fn is_answered(line: &[u8], length: usize) -> bool {
-    if length > 0 && line.len() > 0 {
-        return line[0] != b'#';
-    }
-    false
+// What the commands act on.
+#[derive(Drop)]
+struct State {
+    receiver: Receiver,
+    screen: Screen,
+    links: Links,
+    board: Board,
 }
 
-// Which family's command a line is, by its first word; a line that is too long is no command.
-fn family(line: &[u8], length: usize) -> usize {
-    if length > LONGEST {
-        return NONE;
+impl State {
+    // That at the start of each script.
+    fn start() -> State {
+        State {
+            receiver: Receiver::new(),
+            screen: Screen::fresh(),
+            links: Links::local(),
+            board: Board::fresh(),
+        }
     }
-    place_among(part(line, b' ', 0), b"make judge rx scr lnk brd")
 }
 
-// Ends the answer to a line, which is `? NUMBER` where it is no command; false where it could not be written.
-fn end(out: &mut Output, mut err: Stderr, known: bool, number: u64) -> bool {
-    if !known {
-        out.write_all(b"? ");
-        out.print_decimal(number);
+// Answers the command that a line is. None where it is none, which one that is too long is not; then nothing is written,
+// and nothing changes.
+fn obey(out: &mut Output, state: &mut State, line: &[u8]) -> Option<()> {
+    if line.len() > LONGEST {
+        return None;
+    }
+    let mut words = Parts::of(str::from_utf8(line).ok()?, ' ');
+    match words.next()? {
+        "make" => blocks::make(out, words),
+        "judge" => blocks::judge(out, words),
+        "rx" => receiving::obey(out, words, &mut state.receiver),
+        "scr" => screening::obey(out, words, &mut state.screen),
+        "lnk" => linking::obey(out, words, &mut state.links),
+        "brd" => boarding::obey(out, words, &mut state.board),
+        _ => None,
+    }
+}
+
+// Answers a line, `? NUMBER` where it is no command; an empty one and a remark get no answer, however long. An answer
+// that could not be written is a fault.
+fn answer(out: &mut Output, state: &mut State, line: &[u8], number: u64) -> io::Result<()> {
+    if matches!(line.first(), None | Some(b'#')) {
+        return Ok(());
+    }
+    if obey(out, state, line).is_none() {
+        out.print(format_args!("? {number}"));
     }
     out.write_all(b"\n");
-    match out.fault() {
-        Ok(()) => true,
-        Err(fault) => {
-            let _ = fail(&mut err, b"standard output", fault);
-            false
-        }
-    }
+    out.fault()
 }
 
-// Runs one script to its end, or until an answer cannot be written. `name` is for error lines. The receiver, the
-// screen, the links and the board are held here alone, and handed on for their own commands; no script has more lines
-// than a u64 counts.
-fn run(out: &mut Output, err: Stderr, script: &mut impl Read, name: &[u8]) {
+// What ends a script before its end: it cannot be read, or an answer cannot be written.
+#[derive(Drop)]
+enum Fault {
+    Script(io::Error),
+    Output(io::Error),
+}
+
+// Answers each line of a script. A loop is to end by itself, and what is read need not: so the portions are counted, and
+// no script has more of them, or more lines, than a u64 counts.
+fn answer_all(out: &mut Output, script: &mut impl Read) -> Result<(), Fault> {
     let mut portion = [0u8; 65536];
-    let mut line = [0u8; LONGEST + 1];
-    let mut receiver = Receiver::new();
-    let mut screen = Screen::fresh();
-    let mut links = Links::local();
-    let mut board = Board::fresh();
-    let mut at = At {
-        from: 0,
-        to: 0,
-        length: 0,
-        whole: false,
-        ended: false,
-    };
-    for number in 1..u64::MAX {
-        if at.ended {
+    let mut line = Line::empty();
+    let mut state = State::start();
+    let mut number = 1u64;
+    for _ in 0..u64::MAX {
+        let got = script.read(&mut portion).map_err(Fault::Script)?;
+        if got == 0 {
             break;
         }
-        at = lines::cut(err, script, name, at, &mut portion, &mut line);
-        if is_answered(&line, at.length) {
-            let command = first(&line, at.length);
-            let words = after(command, b' ', 1);
-            let mut known = true;
-            match family(command, at.length) {
-                0 => known = blocks::make(out, words),
-                1 => known = blocks::judge(out, words),
-                2 => receiver = receiving::obey(out, words, receiver, &mut known),
-                3 => screen = screening::obey(out, words, screen, &mut known),
-                4 => links = linking::obey(out, words, links, &mut known),
-                5 => board = boarding::obey(out, words, board, &mut known),
-                _ => known = false,
-            }
-            if !end(out, err, known, number) {
-                at.ended = true;
+        for piece in portion[..got].split_inclusive(|c| *c == b'\n') {
+            if line.take(piece) {
+                answer(out, &mut state, line.characters(), number).map_err(Fault::Output)?;
+                line.clear();
+                number = number.saturating_add(1);
             }
         }
     }
+    answer(out, &mut state, line.characters(), number).map_err(Fault::Output)
 }
 
-// Runs the script that argument `i` names. One that cannot be opened gets a line on standard error.
-fn run_file(out: &mut Output, mut err: Stderr, rt: &(impl Env + Files), i: usize) {
-    let mut word = [0u8; 4096];
-    let length = match arg(rt, i, &mut word) {
-        Ok(length) => length,
-        Err(fault) => {
-            let _ = fail(&mut err, b"the name of a script", fault);
-            return;
+// What the program writes to. The bench has the same two: what is done with them differs, so that a type for both would
+// be two names.
+#[derive(Drop)]
+struct Streams {
+    out: Output,
+    err: Stderr,
+}
+
+impl Streams {
+    // Runs one script. `name` is for error lines.
+    fn run(&mut self, script: &mut impl Read, name: &[u8]) {
+        let _ = match answer_all(&mut self.out, script) {
+            Ok(()) => Ok(()),
+            Err(Fault::Script(error)) => fail(&mut self.err, name, error),
+            Err(Fault::Output(error)) => fail(&mut self.err, b"standard output", error),
+        };
+    }
+
+    // Runs the script that argument `i` names, where there is one. A script that cannot be opened gets a line on standard
+    // error.
+    fn run_file(&mut self, rt: &(impl Env + Files), i: usize) -> Option<()> {
+        let mut word = [0u8; 4096];
+        let length = match argument(rt, i, &mut word) {
+            Ok(found) => found?,
+            Err(fault) => {
+                let _ = fail(&mut self.err, b"the name of a script", fault);
+                return Some(());
+            }
+        };
+        let name = first(&word, length);
+        match path(name).and_then(|path| fs::open(rt, path)) {
+            Ok(mut script) => self.run(&mut script, name),
+            Err(fault) => {
+                let _ = fail(&mut self.err, name, fault);
+            }
         }
-    };
-    let name = &word[0..length];
-    match path(name).and_then(|path| fs::open(rt, path)) {
-        Ok(mut script) => run(out, err, &mut script, name),
-        Err(fault) => {
-            let _ = fail(&mut err, name, fault);
-        }
+        Some(())
     }
 }
 
-// How many arguments there are, the program's own name among them.
-fn argument_count(rt: &impl Env) -> usize {
-    let mut word = [0u8; 1];
-    for i in 0..usize::MAX {
-        if let Err(FillError::NotPresent) = rt.arg(i, &mut word) {
-            return i;
-        }
-    }
-    usize::MAX
-}
-
-// Runs the scripts that the arguments name, or standard input where there are none.
+// Runs the scripts that the arguments name, or standard input where there are none. A loop is to end by itself, so the
+// arguments are counted.
 fn main(rt: HostRuntime) {
-    let err = rt.stderr();
-    let mut out = Output::new(rt.stdout());
-    let count = argument_count(&rt);
-    if count < 2 {
-        run(&mut out, err, &mut rt.stdin(), b"standard input");
-        return;
-    }
-    for i in 1..count {
-        run_file(&mut out, err, &rt, i);
+    let mut streams = Streams {
+        out: Output::new(rt.stdout()),
+        err: rt.stderr(),
+    };
+    for i in 1..usize::MAX {
+        if streams.run_file(&rt, i).is_none() {
+            if i == 1 {
+                streams.run(&mut rt.stdin(), b"standard input");
+            }
+            break;
+        }
     }
 }

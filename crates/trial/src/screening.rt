@@ -1,158 +1,86 @@
 // The commands of the screen: `scr fresh`, `scr byte HH`, `scr run VALUES`, `scr dump`, `scr cell ROW COLUMN` and
 // `scr load CELLS CUR ATTR LAST KEPT PEND`. loading.rt reads the words of a state, and showing.rt writes them.
 //
-// A screen is large, and a proof pays for each that a function holds: so words are read without one, and what acts on
-// one is small.
+// A screen is large, and a proof pays for each that a function holds: so what acts on one is small.
 use crate::loading::screen_of;
-use crate::showing::{spelled, write_cells, write_pen};
-use crate::words::{after, byte, bytes as bytes_of, field, number, part, place_among};
-use lent::first;
-use screen::Answer;
-use screen_page::{Read, Screen};
+use crate::numbering::Number;
+use crate::words::{OrDash, Parts, Shown};
+use screen::{Ran, Refusal};
+use screen_cells::Cell;
+use screen_page::{Broken, Screen};
+use std::fmt;
 use system::Output;
 
 // As many values as a run may have.
 const LONGEST_RUN: usize = 4000;
 
-// What words ask of the screen.
-#[derive(Clone, Copy)]
-enum Wish {
-    // They are no command.
-    Nothing,
-    Fresh,
-    Dump,
-    Byte(u8),
-    Run,
-    Cell { row: u8, column: u8 },
-    Load,
+// What comes of the words of a command, behind its name.
+fn outcome(name: &str, words: &mut Parts<'_>, now: Screen) -> Option<Ran> {
+    Some(match name {
+        "fresh" => taken(Screen::fresh()),
+        "byte" => screen::step(now, words.byte()?),
+        "load" => taken(screen_of(words)?),
+        _ => return None,
+    })
 }
 
-// Reads a command, from its second word on; what is long in it is read where it is taken. After `fresh` and `dump`
-// nothing may stand, so they are known by their length too.
-fn wish_of(words: &[u8], known: &mut bool) -> Wish {
-    let given = after(words, b' ', 1);
-    let wish = match place_among(part(words, b' ', 0), b"fresh dump byte run cell load") {
-        0 => {
-            *known = words.len() == 5;
-            Wish::Fresh
-        }
-        1 => {
-            *known = words.len() == 4;
-            Wish::Dump
-        }
-        2 => Wish::Byte(byte(given, known)),
-        3 => Wish::Run,
-        4 => Wish::Cell {
-            row: field(given, b' ', 0, 255, known),
-            column: number(after(given, b' ', 1), 255, known),
-        },
-        5 => Wish::Load,
-        _ => {
-            *known = false;
-            Wish::Nothing
-        }
-    };
-    if *known { wish } else { Wish::Nothing }
-}
-
-// Answers a command of this family, from its second word on and up to the end of the line: the screen after it. Words
-// that are no command leave it as it is, and are not `known`.
-pub(crate) fn obey(out: &mut Output, words: &[u8], now: Screen, known: &mut bool) -> Screen {
-    let wish = wish_of(words, known);
-    match wish {
-        Wish::Nothing => now,
-        Wish::Fresh => put(out, Screen::fresh()),
-        Wish::Dump => {
-            let cells = now.cells;
-            write_cells(out, cells);
-            now
-        }
-        Wish::Byte(value) => take(out, now, value),
-        Wish::Run => take_all(out, after(words, b' ', 1), now, known),
-        Wish::Cell { row, column } => {
-            write_read(out, now.cell(row, column));
-            now
-        }
-        Wish::Load => load(out, after(words, b' ', 1), now, known),
+// A state that no call made is taken.
+fn taken(screen: Screen) -> Ran {
+    Ran {
+        screen,
+        answer: Ok(()),
     }
 }
 
-// A state that no call made.
-fn put(out: &mut Output, state: Screen) -> Screen {
-    out.write_all(b"0");
-    write_pen(out, state.pen);
-    state
-}
-
-// `byte HH`.
-fn take(out: &mut Output, now: Screen, value: u8) -> Screen {
-    let done = screen::step(now, value);
-    let answer = done.answer;
-    let next = done.screen;
-    write_answer(out, answer);
-    write_pen(out, next.pen);
-    next
-}
-
-// `run VALUES`, from its values on.
-fn take_all(out: &mut Output, word: &[u8], now: Screen, known: &mut bool) -> Screen {
-    let mut values = [0u8; LONGEST_RUN];
-    let n = bytes_of(word, &mut values);
-    if n > LONGEST_RUN {
-        *known = false;
-        return now;
+// Answers a command of this family, from its second word on. None where the words are none; then the screen stays as it
+// is.
+pub(crate) fn obey(out: &mut Output, mut words: Parts<'_>, now: &mut Screen) -> Option<()> {
+    match words.next()? {
+        "dump" => {
+            words.end()?;
+            out.print(Shown(&now.cells));
+        }
+        "cell" => {
+            let row = words.number()?;
+            let column = words.number()?;
+            words.end()?;
+            out.print(Shown(&now.cell(row, column)));
+        }
+        "run" => run(out, words, now)?,
+        name => {
+            let done = outcome(name, &mut words, *now)?;
+            words.end()?;
+            let number = Number::of(done.answer);
+            out.print(format_args!("{number} {}", Shown(&done.screen.pen)));
+            *now = done.screen;
+        }
     }
-    let done = screen::run(now, first(&values, n));
-    let answer = done.answer;
-    let next = done.screen;
-    write_answer(out, answer);
-    write_place(out, answer);
-    write_pen(out, next.pen);
-    next
+    Some(())
 }
 
-// `load CELLS CUR ATTR LAST KEPT PEND`, from its cells on.
-fn load(out: &mut Output, words: &[u8], now: Screen, known: &mut bool) -> Screen {
-    let state = screen_of(words, known);
-    if *known {
-        return put(out, state);
-    }
-    now
-}
-
-// The number that a call answered.
-fn write_answer(out: &mut Output, answer: Answer) {
-    let number = match answer {
-        Answer::Taken => 0,
-        Answer::TooLarge(_) => 2,
-        Answer::Broken => 5,
-    };
-    out.print_decimal(number);
-}
-
-// For a run, the place of a value too large.
-fn write_place(out: &mut Output, answer: Answer) {
-    if let Answer::TooLarge(place) = answer {
-        out.write_all(b" ");
-        out.print_decimal(place as u64);
-    } else {
-        out.write_all(b" -");
-    }
+// `run VALUES`, from its values on: the place of a value too large stands in the answer too.
+fn run(out: &mut Output, mut words: Parts<'_>, now: &mut Screen) -> Option<()> {
+    let mut room = [0u8; LONGEST_RUN];
+    let values = words.bytes(&mut room)?;
+    words.end()?;
+    let done = screen::run(*now, values);
+    let number = Number::of(done.answer);
+    let place = OrDash(match done.answer {
+        Err(Refusal::TooLarge(place)) => Some(place),
+        _ => None,
+    });
+    out.print(format_args!("{number} {place} {}", Shown(&done.screen.pen)));
+    *now = done.screen;
+    Some(())
 }
 
 // What reading a cell gave.
-fn write_read(out: &mut Output, found: Read) {
-    match found {
-        Read::There(cell) => {
-            let text = spelled(cell);
-            out.write_all(b"0 ");
-            out.write_all(&text);
-        }
-        Read::Off => {
-            out.write_all(b"0 off");
-        }
-        Read::Broken => {
-            out.write_all(b"5 -");
+impl fmt::Display for Shown<'_, Result<Option<Cell>, Broken>> {
+    fn fmt<W: fmt::Write>(&self, f: &mut fmt::Formatter<W>) -> fmt::Result {
+        match self.0 {
+            Ok(Some(cell)) => write!(f, "0 {}", Shown(cell)),
+            Ok(None) => f.write_str("0 off"),
+            Err(Broken) => f.write_str("5 -"),
         }
     }
 }

@@ -1,105 +1,110 @@
 // A screen's state as words of an answer: its cells, and all the rest of it.
-use crate::words::{letter, part, write_bytes, write_number};
-use lent::add;
-use screen_attributes::{Attributes, Waiting};
-use screen_cells::Cell;
-use screen_pen::{Last, Pen};
+use crate::words::{OrDash, Shown};
+use screen_attributes::Attributes;
+use screen_cells::{Cell, Character};
+use screen_cursor::Place;
+use screen_pen::{Pen, Spot};
 use screen_sequences::Sequence;
-use system::Output;
+use std::fmt;
 
-// The names of unfinished sequences, but for the one that has a code.
-pub(crate) const SEQUENCES: [u8; 29] = *b"- esc esc2 csi us rep ss2 sep";
-
-// The seven digits of a cell.
-pub(crate) fn spelled(cell: Cell) -> [u8; 7] {
-    [
-        letter(cell.character.set),
-        letter(cell.character.code / 16),
-        letter(cell.character.code % 16),
-        letter(cell.ink),
-        letter(cell.ground),
-        letter(cell.flash as u8),
-        letter(cell.inverse as u8),
-    ]
+// The seven digits of a cell. The bench writes them so too: see `Hex` of words.rt.
+impl fmt::Display for Shown<'_, Cell> {
+    fn fmt<W: fmt::Write>(&self, f: &mut fmt::Formatter<W>) -> fmt::Result {
+        let Cell {
+            character,
+            ink,
+            ground,
+            flash,
+            inverse,
+        } = *self.0;
+        let Character { set, code } = character;
+        let flash = u8::from(flash);
+        let inverse = u8::from(inverse);
+        write!(f, "{set:x}{code:02x}{ink:x}{ground:x}{flash}{inverse}")
+    }
 }
 
 // All the cells, with nothing between them.
-pub(crate) fn write_cells(out: &mut Output, cells: [Cell; 1000]) {
-    let mut text = [0u8; 7000];
-    let mut at = 0;
-    for cell in cells {
-        let seven = spelled(cell);
-        at = add(&seven, &mut text, at);
-    }
-    out.write_all(&text);
-}
-
-// Attributes as numbers, with this mark before the first.
-fn write_attributes(out: &mut Output, mark: u8, a: Attributes) {
-    write_number(out, mark, a.set);
-    write_number(out, b',', a.ink);
-    let zone = a.zone;
-    let waiting = zone.waiting;
-    write_number(out, b',', zone.ground);
-    match waiting {
-        Waiting::Nothing => {
-            out.write_all(b",-");
+impl fmt::Display for Shown<'_, [Cell; 1000]> {
+    fn fmt<W: fmt::Write>(&self, f: &mut fmt::Formatter<W>) -> fmt::Result {
+        for cell in self.0 {
+            write!(f, "{}", Shown(cell))?;
         }
-        Waiting::Ground(colour) => {
-            write_number(out, b',', colour);
-        }
-    }
-    write_number(out, b',', a.flash as u8);
-    write_number(out, b',', a.inverse as u8);
-}
-
-fn write_last(out: &mut Output, last: Last) {
-    out.write_all(b" last=");
-    match last {
-        Last::Never => {
-            out.write_all(b"-");
-        }
-        Last::Was(character) => {
-            out.print_decimal(character.set as u64);
-            write_bytes(out, b':', &[character.code]);
-        }
+        Ok(())
     }
 }
 
-fn write_sequence(out: &mut Output, sequence: Sequence) {
-    let place = match sequence {
-        Sequence::Free => 0,
-        Sequence::Escape => 1,
-        Sequence::Long => 2,
-        Sequence::Control => 3,
-        Sequence::Address | Sequence::Row(_) => 4,
-        Sequence::Repeat => 5,
-        Sequence::Single => 6,
-        Sequence::Separator => 7,
-    };
-    out.write_all(b" pend=");
-    out.write_all(part(&SEQUENCES, b' ', place));
-    if let Sequence::Row(code) = sequence {
-        write_bytes(out, b':', &[code]);
+// ROW,COLUMN.
+impl fmt::Display for Shown<'_, Place> {
+    fn fmt<W: fmt::Write>(&self, f: &mut fmt::Formatter<W>) -> fmt::Result {
+        write!(f, "{},{}", self.0.row, self.0.column)
+    }
+}
+
+// SET,INK,GROUND,WAITING,FLASH,INVERSE.
+impl fmt::Display for Shown<'_, Attributes> {
+    fn fmt<W: fmt::Write>(&self, f: &mut fmt::Formatter<W>) -> fmt::Result {
+        let Attributes {
+            set,
+            ink,
+            zone,
+            flash,
+            inverse,
+        } = *self.0;
+        let ground = zone.ground;
+        let waiting = OrDash(zone.waiting);
+        let flash = u8::from(flash);
+        let inverse = u8::from(inverse);
+        write!(f, "{set},{ink},{ground},{waiting},{flash},{inverse}")
+    }
+}
+
+// SET:CODE.
+impl fmt::Display for Shown<'_, Character> {
+    fn fmt<W: fmt::Write>(&self, f: &mut fmt::Formatter<W>) -> fmt::Result {
+        write!(f, "{}:{:02x}", self.0.set, self.0.code)
+    }
+}
+
+// The name of a sequence, and its code where it has one.
+impl fmt::Display for Shown<'_, Sequence> {
+    fn fmt<W: fmt::Write>(&self, f: &mut fmt::Formatter<W>) -> fmt::Result {
+        match self.0 {
+            Sequence::Free => f.write_str("-"),
+            Sequence::Escape => f.write_str("esc"),
+            Sequence::Long => f.write_str("esc2"),
+            Sequence::Control => f.write_str("csi"),
+            Sequence::Address => f.write_str("us"),
+            Sequence::Row(code) => write!(f, "us:{code:02x}"),
+            Sequence::Repeat => f.write_str("rep"),
+            Sequence::Single => f.write_str("ss2"),
+            Sequence::Separator => f.write_str("sep"),
+        }
     }
 }
 
 // All of a state but its cells.
-pub(crate) fn write_pen(out: &mut Output, pen: Pen) {
-    let here = pen.here;
-    let kept = pen.kept;
-    let last = pen.last;
-    let sequence = pen.sequence;
-    out.write_all(b" cur");
-    write_number(out, b'=', here.place.row);
-    write_number(out, b',', here.place.column);
-    write_number(out, b',', pen.shown as u8);
-    out.write_all(b" attr");
-    write_attributes(out, b'=', here.attributes);
-    write_last(out, last);
-    out.write_all(b" kept");
-    write_number(out, b'=', kept.place.row);
-    write_number(out, b',', kept.place.column);
-    write_attributes(out, b',', kept.attributes);
-    write_sequence(out, sequence);
+impl fmt::Display for Shown<'_, Pen> {
+    fn fmt<W: fmt::Write>(&self, f: &mut fmt::Formatter<W>) -> fmt::Result {
+        let pen = self.0;
+        let place = Shown(&pen.here.place);
+        let shown = u8::from(pen.shown);
+        let attributes = Shown(&pen.here.attributes);
+        let last = OrDash(pen.last.as_ref().map(Shown));
+        let kept = Shown(&pen.kept);
+        let sequence = Shown(&pen.sequence);
+        write!(
+            f,
+            "cur={place},{shown} attr={attributes} last={last} kept={kept} pend={sequence}"
+        )
+    }
+}
+
+// ROW,COLUMN and then as attributes are.
+impl fmt::Display for Shown<'_, Spot> {
+    fn fmt<W: fmt::Write>(&self, f: &mut fmt::Formatter<W>) -> fmt::Result {
+        let place = Shown(&self.0.place);
+        let attributes = Shown(&self.0.attributes);
+        write!(f, "{place},{attributes}")
+    }
 }

@@ -1,144 +1,105 @@
 // The state of the links as words: the table, and what is unfinished from modem and from socket. It is read from the
-// words of a command, where one that names no such part makes `good` false, and written as words of an answer.
-use crate::words::{after, byte, digit, letter, part, place_among, write_bytes};
-use lent::{first, past};
+// words of a command, and written as words of an answer.
+use crate::words::{Parts, Shown, mark_of};
 use links::Links;
-use links_hearing::Unfinished;
-use links_sending::Bytes;
-use links_wiring::{Row, Table};
-use system::Output;
+use links_hearing::{Sequences, Unfinished};
+use links_wiring::{Each, Table};
+use std::fmt;
 
-// Whether a 1 stands at a place; there is to be a 0 or a 1.
-fn mark_of(word: &[u8], at: usize, good: &mut bool) -> bool {
-    let d = digit(word, at);
-    if d > 1 {
-        *good = false;
-    }
-    d == 1
-}
-
-// The first four digits: one sender's.
-fn row_of(digits: &[u8], good: &mut bool) -> Row {
-    Row {
-        screen: mark_of(digits, 0, good),
-        keyboard: mark_of(digits, 1, good),
-        modem: mark_of(digits, 2, good),
-        socket: mark_of(digits, 3, good),
+// What is read of each of four things: one for each module.
+fn each_of<A, T: Drop, F: Fn(&A) -> Option<T>>(four: &[A], read: F) -> Option<Each<T>>
+    requires { F.IsAlwaysCallable read }
+{
+    match four {
+        [screen, keyboard, modem, socket] => Some(Each {
+            screen: read(screen)?,
+            keyboard: read(keyboard)?,
+            modem: read(modem)?,
+            socket: read(socket)?,
+        }),
+        _ => None,
     }
 }
 
-// TABLE: sixteen digits.
-fn table_of(word: &[u8], good: &mut bool) -> Table {
-    if word.len() != 16 {
-        *good = false;
-    }
-    Table {
-        screen: row_of(word, good),
-        keyboard: row_of(past(word, 4), good),
-        modem: row_of(past(word, 8), good),
-        socket: row_of(past(word, 12), good),
-    }
+// TABLE: sixteen digits, four for each sender.
+fn table_of(word: &str) -> Option<Table> {
+    let (fours, []) = word.as_bytes().as_chunks::<4>() else {
+        return None;
+    };
+    each_of(fours, |four| each_of(four, |digit| mark_of(*digit)))
 }
 
 // CODES.
-fn unfinished_of(word: &[u8], good: &mut bool) -> Unfinished {
-    match place_among(word, b"- 1b 1b39 1b3a 1b3b") {
-        0 => Unfinished::Free,
-        1 => Unfinished::Escape,
-        2 => Unfinished::Pro1,
-        3 => Unfinished::Pro2,
-        4 => Unfinished::Pro3,
-        _ => longer_of(first(word, 4), past(word, 4), good),
-    }
-}
-
-// The same where codes follow those of PRO2 or PRO3: one, or for PRO3 two.
-fn longer_of(name: &[u8], codes: &[u8], good: &mut bool) -> Unfinished {
-    match place_among(name, b"1b3a 1b3b") {
-        0 => Unfinished::Pro2With(byte(codes, good)),
-        1 => {
-            if codes.len() == 2 {
-                return Unfinished::Pro3With(byte(codes, good));
-            }
-            Unfinished::Pro3Both(byte(first(codes, 2), good), byte(past(codes, 2), good))
-        }
-        _ => {
-            *good = false;
-            Unfinished::Free
-        }
+fn unfinished_of(words: &mut Parts<'_>) -> Option<Unfinished> {
+    let mut room = [0u8; 4];
+    match words.bytes(&mut room)? {
+        [] => Some(Unfinished::Free),
+        [0x1b] => Some(Unfinished::Escape),
+        [0x1b, 0x39] => Some(Unfinished::Pro1),
+        [0x1b, 0x3a] => Some(Unfinished::Pro2),
+        [0x1b, 0x3a, code] => Some(Unfinished::Pro2With(*code)),
+        [0x1b, 0x3b] => Some(Unfinished::Pro3),
+        [0x1b, 0x3b, code] => Some(Unfinished::Pro3With(*code)),
+        [0x1b, 0x3b, code, next] => Some(Unfinished::Pro3Both(*code, *next)),
+        _ => None,
     }
 }
 
 // TABLE MODEM SOCKET, in range or not.
-pub(crate) fn links_of(words: &[u8], good: &mut bool) -> Links {
-    Links {
-        table: table_of(part(words, b' ', 0), good),
-        modem: unfinished_of(part(words, b' ', 1), good),
-        socket: unfinished_of(after(words, b' ', 2), good),
+pub(crate) fn links_of(words: &mut Parts<'_>) -> Option<Links> {
+    Some(Links {
+        table: table_of(words.next()?)?,
+        unfinished: Sequences {
+            modem: unfinished_of(words)?,
+            socket: unfinished_of(words)?,
+        },
+    })
+}
+
+// The codes of an unfinished sequence so far. The bench writes them, and the marks, so too: see `Hex`.
+impl fmt::Display for Shown<'_, Unfinished> {
+    fn fmt<W: fmt::Write>(&self, f: &mut fmt::Formatter<W>) -> fmt::Result {
+        match self.0 {
+            Unfinished::Free => f.write_str("-"),
+            Unfinished::Escape => f.write_str("1b"),
+            Unfinished::Pro1 => f.write_str("1b39"),
+            Unfinished::Pro2 => f.write_str("1b3a"),
+            Unfinished::Pro2With(code) => write!(f, "1b3a{code:02x}"),
+            Unfinished::Pro3 => f.write_str("1b3b"),
+            Unfinished::Pro3With(code) => write!(f, "1b3b{code:02x}"),
+            Unfinished::Pro3Both(code, next) => write!(f, "1b3b{code:02x}{next:02x}"),
+        }
+    }
+}
+
+// Whether one module's bytes reach another.
+impl fmt::Display for Shown<'_, bool> {
+    fn fmt<W: fmt::Write>(&self, f: &mut fmt::Formatter<W>) -> fmt::Result {
+        write!(f, "{}", u8::from(*self.0))
     }
 }
 
-// Writes the name at a place of an answer, and these bytes after it.
-pub(crate) fn write_codes(out: &mut Output, place: usize, bytes: Bytes) {
-    let codes = bytes.codes;
-    out.write_all(part(
-        b" screen, keyboard, modem, socket, pend_modem, pend_socket",
-        b',',
-        place,
-    ));
-    write_bytes(out, b'=', first(&codes, bytes.count));
-}
-
-// The codes of an unfinished sequence so far.
-fn codes_of(unfinished: Unfinished) -> Bytes {
-    let mut count = 2;
-    let mut codes = [27, 0, 0, 0, 0];
-    match unfinished {
-        Unfinished::Free => count = 0,
-        Unfinished::Escape => count = 1,
-        Unfinished::Pro1 => codes = [27, 57, 0, 0, 0],
-        Unfinished::Pro2 => codes = [27, 58, 0, 0, 0],
-        Unfinished::Pro2With(code) => {
-            count = 3;
-            codes = [27, 58, code, 0, 0];
-        }
-        Unfinished::Pro3 => codes = [27, 59, 0, 0, 0],
-        Unfinished::Pro3With(code) => {
-            count = 3;
-            codes = [27, 59, code, 0, 0];
-        }
-        Unfinished::Pro3Both(code, next) => {
-            count = 4;
-            codes = [27, 59, code, next, 0];
-        }
+// A thing for each module, as the digits of a sender or of the table.
+impl<'a, T> fmt::Display for Shown<'a, Each<T>>
+where
+    Shown<'a, T>: fmt::Display,
+{
+    fn fmt<W: fmt::Write>(&self, f: &mut fmt::Formatter<W>) -> fmt::Result {
+        let each: &'a Each<T> = self.0;
+        let screen = Shown(&each.screen);
+        let keyboard = Shown(&each.keyboard);
+        let modem = Shown(&each.modem);
+        let socket = Shown(&each.socket);
+        write!(f, "{screen}{keyboard}{modem}{socket}")
     }
-    Bytes { codes, count }
-}
-
-// One sender's four digits.
-fn write_row(out: &mut Output, row: Row) {
-    let four = [
-        letter(row.screen as u8),
-        letter(row.keyboard as u8),
-        letter(row.modem as u8),
-        letter(row.socket as u8),
-    ];
-    out.write_all(&four);
-}
-
-fn write_table(out: &mut Output, table: Table) {
-    out.write_all(b" table=");
-    write_row(out, table.screen);
-    write_row(out, table.keyboard);
-    write_row(out, table.modem);
-    write_row(out, table.socket);
 }
 
 // All of a state.
-pub(crate) fn write_links(out: &mut Output, state: Links) {
-    let modem = state.modem;
-    let socket = state.socket;
-    write_table(out, state.table);
-    write_codes(out, 4, codes_of(modem));
-    write_codes(out, 5, codes_of(socket));
+impl fmt::Display for Shown<'_, Links> {
+    fn fmt<W: fmt::Write>(&self, f: &mut fmt::Formatter<W>) -> fmt::Result {
+        let table = Shown(&self.0.table);
+        let modem = Shown(&self.0.unfinished.modem);
+        let socket = Shown(&self.0.unfinished.socket);
+        write!(f, "table={table} pend_modem={modem} pend_socket={socket}")
+    }
 }

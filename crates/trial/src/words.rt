@@ -1,183 +1,181 @@
-// The parts of a text, the bytes and numbers that its words name, and bytes and numbers as words.
+// The words of a line, read one after the other, and what they name; bytes as a word of an answer.
 //
-// Whoever has a word read lends `good`, which a word that names nothing of its kind makes false. So several words are
-// read one after the other, and the question is put once.
-ghost use Rattle.std.specs.Prelude.{◌≤◌, length};
+// A word that names nothing of the kind that is asked for gives None, and so does one that is not there: then the line
+// is no command.
+//
+// The program bench shows bytes, cells and codes by the same digits, in lines of its own. The two stay apart: this form is
+// that of docs/TRIAL.md and may not change, and that one may.
+ghost use Rattle.std.specs.Prelude.{◌<◌};
+ghost use Rattle.std.specs.Option.{IfSome};
 
-use lent::{add, first, is};
-use system::Output;
+use std::fmt;
+use std::str::Split;
 
 // As many bytes as a word of a block command may name.
 pub(crate) const MOST: usize = 64;
 
-// The largest number of the format: as many bytes as a piece of the line may have, and each of its outputs. No other
-// word of an answer names more bytes, but for all the cells.
+// The largest number of the format: as many bytes as a piece of the line may have, and each of its outputs.
 pub(crate) const LARGEST: usize = 600;
 
-// What is answered where a word names nothing: above every count and number, so that whoever tests for a largest one
-// refuses it too.
-pub(crate) const NONE: usize = usize::MAX;
+// What is left of a text that is read part by part, with a mark between two: words, or numbers within a word.
+#[derive(Drop)]
+pub(crate) struct Parts<'a>(Split<'a, char>);
 
-// Whether a word is `-`, which stands for none.
-pub(crate) fn is_dash(word: &[u8]) -> bool {
-    is(word, b"-")
+impl<'a> Parts<'a> {
+    // Those of a text.
+    pub(crate) fn of(text: &'a str, mark: char) -> Parts<'a> {
+        Parts(text.split(mark))
+    }
+
+    // The next part, whatever it is.
+    pub(crate) fn next(&mut self) -> Option<&'a str> {
+        self.0.next()
+    }
+
+    // There is to be no further part.
+    pub(crate) fn end(&mut self) -> Option<()> {
+        match self.0.next() {
+            None => Some(()),
+            Some(_) => None,
+        }
+    }
+
+    // The number that the next part names.
+    pub(crate) fn number(&mut self) -> Option<u8> {
+        number(self.next()?)
+    }
+
+    // The same where it may be larger, up to LARGEST.
+    pub(crate) fn size(&mut self) -> Option<usize> {
+        decimal(self.next()?)
+    }
+
+    // Whether the next part is 1; it is to be 0 or 1.
+    pub(crate) fn flag(&mut self) -> Option<bool> {
+        match self.number()? {
+            0 => Some(false),
+            1 => Some(true),
+            _ => None,
+        }
+    }
+
+    // The bytes that the next part names, put at the start of some room; there is to be room for them.
+    pub(crate) fn bytes<'b>(&mut self, room: &'b mut [u8]) -> Option<&'b mut [u8]> {
+        bytes(self.next()?, room)
+    }
+
+    // The same where they are to be so many.
+    pub(crate) fn array<const N: usize>(&mut self) -> Option<[u8; N]> {
+        array(self.next()?)
+    }
+
+    // The one byte that the next part names.
+    pub(crate) fn byte(&mut self) -> Option<u8> {
+        byte(self.next()?)
+    }
 }
 
-// Where a mark stands first, or how long the text is where it does not.
-pub(crate) fn find(text: &[u8], mark: u8) -> usize
-    ensures { result ≤ length text.now }
+// Whether a digit is 1; it is to be 0 or 1.
+pub(crate) fn mark_of(digit: u8) -> Option<bool> {
+    match digit {
+        b'0' => Some(false),
+        b'1' => Some(true),
+        _ => None,
+    }
+}
+
+// What a lower-case hex digit is worth.
+pub(crate) fn digit(c: u8) -> Option<u8>
+    ensures { IfSome result (λ worth. worth < 16) }
 {
-    for i in 0..text.len() {
-        if text[i] == mark {
-            return i;
-        }
-    }
-    text.len()
-}
-
-// What stands after so many marks; nothing where there are fewer.
-pub(crate) fn after(text: &[u8], mark: u8, marks: usize) -> &[u8] {
-    let mut rest = text;
-    for _ in 0..marks {
-        let e = find(rest, mark);
-        if e == rest.len() {
-            return &rest[e..];
-        }
-        rest = &rest[e + 1..];
-    }
-    rest
-}
-
-// The part after so many marks, up to the next.
-pub(crate) fn part(text: &[u8], mark: u8, marks: usize) -> &[u8] {
-    let rest = after(text, mark, marks);
-    first(rest, find(rest, mark))
-}
-
-// How many words stand before a name among names; as many as there are, or more, where it is none of them.
-pub(crate) fn place_among(name: &[u8], names: &[u8]) -> usize {
-    for i in 0..names.len() {
-        if is(name, part(names, b' ', i)) {
-            return i;
-        }
-    }
-    NONE
-}
-
-// What the lower-case hex digit at a place is worth; 16 for any other character, and where there is none.
-pub(crate) fn digit(word: &[u8], at: usize) -> u8 {
-    if at >= word.len() {
-        return 16;
-    }
-    let c = word[at];
     match c {
-        b'0'..=b'9' => c - b'0',
-        b'a'..=b'f' => c - b'a' + 10,
-        _ => 16,
+        b'0'..=b'9' => Some(c - b'0'),
+        b'a'..=b'f' => Some(c - b'a' + 10),
+        _ => None,
     }
 }
 
-// Puts the bytes that a word names at the start of `out`: how many they are, or NONE where it names none, or more than
-// fit.
-pub(crate) fn bytes(word: &[u8], out: &mut [u8]) -> usize {
-    if is_dash(word) {
-        return 0;
+// The byte that two of them name.
+pub(crate) fn pair(high: u8, low: u8) -> Option<u8> {
+    let high = digit(high)?;
+    let low = digit(low)?;
+    Some(16 * high + low)
+}
+
+// The bytes that a word names, put at the start of some room; `-` names none.
+pub(crate) fn bytes<'a>(word: &str, room: &'a mut [u8]) -> Option<&'a mut [u8]> {
+    if word == "-" {
+        return room.get_mut(..0);
     }
-    let n = word.len() / 2;
-    let mut i = 0;
-    while i < n && i < out.len() {
-        let high = digit(word, 2 * i);
-        let low = digit(word, 2 * i + 1);
-        if high > 15 || low > 15 {
-            return NONE;
-        }
-        out[i] = high % 16 * 16 + low % 16;
-        i += 1;
+    let (pairs, rest) = word.as_bytes().as_chunks::<2>();
+    if pairs.is_empty() || !rest.is_empty() {
+        return None;
     }
-    if i == 0 || i < n || word.len() % 2 != 0 {
-        return NONE;
+    let named = room.get_mut(..pairs.len())?;
+    for (byte, two) in named.iter_mut().zip(pairs) {
+        *byte = pair(two[0], two[1])?;
     }
-    i
+    Some(named)
+}
+
+// The same where they are to be so many.
+pub(crate) fn array<const N: usize>(word: &str) -> Option<[u8; N]> {
+    let mut named = [0; N];
+    if bytes(word, &mut named)?.len() < N {
+        return None;
+    }
+    Some(named)
 }
 
 // The one byte that a word names.
-pub(crate) fn byte(word: &[u8], good: &mut bool) -> u8 {
-    let mut one = [0u8; 1];
-    if bytes(word, &mut one) != 1 {
-        *good = false;
-    }
-    one[0]
+pub(crate) fn byte(word: &str) -> Option<u8> {
+    let [byte] = array::<1>(word)?;
+    Some(byte)
 }
 
-// The decimal number that a word names, or NONE where it names none, or one above LARGEST.
-pub(crate) fn decimal(word: &[u8]) -> usize {
-    if word.len() == 0 || word.len() > 1 && digit(word, 0) == 0 {
-        return NONE;
+// The decimal number that a word names, at most LARGEST.
+fn decimal(word: &str) -> Option<usize> {
+    if word.starts_with('+') || word.len() > 1 && word.starts_with('0') {
+        return None;
     }
-    let mut number = 0;
-    for i in 0..word.len() {
-        let d = digit(word, i);
-        if d > 9 {
-            return NONE;
+    word.parse::<usize>().ok().filter(|n| *n <= LARGEST)
+}
+
+// The same where it is to be a byte's.
+pub(crate) fn number(word: &str) -> Option<u8> {
+    u8::try_from(decimal(word)?).ok()
+}
+
+// Bytes as a word: two digits each, `-` for none. The bench writes them so too; each program keeps its own words, since
+// the formats are two and nothing but their stored texts holds either.
+#[derive(Drop)]
+pub(crate) struct Hex<'a>(pub(crate) &'a [u8]);
+
+impl fmt::Display for Hex<'_> {
+    fn fmt<W: fmt::Write>(&self, f: &mut fmt::Formatter<W>) -> fmt::Result {
+        if self.0.is_empty() {
+            return f.write_str("-");
         }
-        number = number * 10 + d as usize;
-        if number > LARGEST {
-            return NONE;
+        for byte in self.0 {
+            write!(f, "{byte:02x}")?;
+        }
+        Ok(())
+    }
+}
+
+// What may be there, as a word; `-` where it is not.
+#[derive(Drop)]
+pub(crate) struct OrDash<T>(pub(crate) Option<T>);
+
+impl<T: fmt::Display> fmt::Display for OrDash<T> {
+    fn fmt<W: fmt::Write>(&self, f: &mut fmt::Formatter<W>) -> fmt::Result {
+        match &self.0 {
+            Some(value) => write!(f, "{value}"),
+            None => f.write_str("-"),
         }
     }
-    number
 }
 
-// The same where it is at most `most`.
-pub(crate) fn number(word: &[u8], most: u8, good: &mut bool) -> u8 {
-    let n = decimal(word);
-    if n > most as usize {
-        *good = false;
-        return 0;
-    }
-    n as u8
-}
-
-// The same in the part after so many marks.
-pub(crate) fn field(text: &[u8], mark: u8, marks: usize, most: u8, good: &mut bool) -> u8 {
-    number(part(text, mark, marks), most, good)
-}
-
-// The lower-case hex digit that is worth so much.
-pub(crate) fn letter(worth: u8) -> u8 {
-    if worth < 10 {
-        return b'0' + worth;
-    }
-    b'a' - 10 + worth % 16
-}
-
-// The two digits of a byte.
-fn pair(byte: u8) -> [u8; 2] {
-    [letter(byte / 16), letter(byte % 16)]
-}
-
-// Writes a mark, and bytes as a word after it, `-` for none; there are at most LARGEST of them.
-pub(crate) fn write_bytes(out: &mut Output, mark: u8, bytes: &[u8]) {
-    let mut text = [mark; 1 + 2 * LARGEST];
-    text[1] = b'-';
-    let mut at = 1;
-    for byte in bytes {
-        let two = pair(*byte);
-        at = add(&two, &mut text, at);
-    }
-    if bytes.len() == 0 {
-        at = 2;
-    }
-    out.write_all(first(&text, at));
-}
-
-// Writes a mark and a count after it.
-pub(crate) fn write_count(out: &mut Output, mark: u8, n: usize) {
-    out.write_all(&[mark]);
-    out.print_decimal(n as u64);
-}
-
-// The same for a number that is a byte.
-pub(crate) fn write_number(out: &mut Output, mark: u8, n: u8) {
-    write_count(out, mark, n as usize);
-}
+// A value of another crate as an answer has it.
+#[derive(Drop)]
+pub(crate) struct Shown<'a, T>(pub(crate) &'a T);

@@ -1,9 +1,0 @@
--- As many bytes were put as pairs of digits were read; a turn reads one pair more.
-use Rattle.std.proofs.Common.{◌-◌, ◌≤◌}
-use Rattle.trial.proofs.words.bytes.Given as goal
-
-abbrev pub invariant-loop-i : goal.invariant-loop-i
-invariant-loop-i l = l.i ≤ l.n
-
-abbrev pub decreases-loop-i : goal.decreases-loop-i
-decreases-loop-i l = l.n - l.i
