@@ -1,19 +1,18 @@
 -- The bench cards (01, "The bench cards"), as one list and one statement over it. Assumes nothing.
-use Rattle.std.specs.Prelude.{◌≡◌, List, [], ◌∷◌, ◌++◌, map, ℕ, replicate}
+use Rattle.std.specs.Prelude.{Some, ◌≡◌, List, [], ◌∷◌, ◌++◌, map, ℕ, replicate}
 use Rattle.block_maker.specs.Making.{make_number, make_left}
 use Rattle.block_reader.specs.declared.Verdict.{Verdict}
 use Rattle.block_reader.specs.declared.Verdict.TheVariants.{Mended, Repeat}
 use Rattle.block_reader.specs.Judging.{verdict, left, handed}
 use Rattle.line_phases.specs.declared.Phase.{Phase}
 use Rattle.line_phases.specs.declared.Phase.TheVariants.{Collecting, Waiting}
-use Rattle.line_receiver.specs.declared.Judged.TheVariants.{Block}
 use Rattle.line_receiver.specs.States.{new_receiver}
 use Rattle.line_receiver.specs.Runs.{Event, byte, on, run, Sent, sent}
 use Rattle.line_receiver.specs.Page.{nothing}
 use Rattle.screen_cells.specs.declared.Cell.{Cell}
 use Rattle.screen_pen.specs.declared.Pen.{Pen}
 use Rattle.screen_page.specs.Pages.{fresh_screen}
-use Rattle.screen_answers.specs.declared.Answer.TheVariants.{Taken}
+use Rattle.screen_answers.specs.Answers.{Taken}
 use Rattle.screen.specs.Calls.{runs_to, ran}
 use Rattle.cards.specs.Drawn.{ff, rep, us, plain, blanks, rows, start, pen, lately}
 
@@ -90,7 +89,7 @@ abbrev pub quiet : ℕ → List Sent
 quiet n = replicate n nothing
 
 abbrev pub asked9 : List Sent
-asked9 = quiet 17 ++ (record { passed = []; asked = 149 ∷ 192 ∷ []; judged = Block Repeat } ∷ [])
+asked9 = quiet 17 ++ (record { passed = []; asked = 149 ∷ 192 ∷ []; judged = Some Repeat } ∷ [])
 
 -- W9 to W11
 abbrev pub line_cards : List Card

@@ -1,14 +1,12 @@
 -- Words for the cards of the screen: codes, cells and pens written out (01, "Screen cells"). Of the screen's crates
 -- only the types are taken, so that a card says what 01 says, whatever a definition there would make of it. Assumes
 -- nothing.
-use Rattle.std.specs.Prelude.{true, false, List, [], ◌∷◌, ℕ, zero, suc, ◌+◌, ◌*◌, replicate}
+use Rattle.std.specs.Prelude.{Some, None, true, false, List, [], ◌∷◌, ℕ, zero, suc, ◌+◌, ◌*◌, replicate}
 use Rattle.screen_sequences.specs.declared.Sequence.{Sequence}
 use Rattle.screen_sequences.specs.declared.Sequence.TheVariants.{Free}
 use Rattle.screen_cells.specs.declared.Cell.{Cell}
-use Rattle.screen_attributes.specs.declared.Waiting.TheVariants.{Nothing, Ground}
 use Rattle.screen_attributes.specs.declared.Attributes.{Attributes}
 use Rattle.screen_pen.specs.declared.Spot.{Spot}
-use Rattle.screen_pen.specs.declared.Last.TheVariants.{Never, Was}
 use Rattle.screen_pen.specs.declared.Pen.{Pen}
 
 -- ---- the codes with names (001, part 2, chapter 2)
@@ -89,12 +87,10 @@ cell s d i g =
 
 -- the same with flash, and inverse
 abbrev pub flashing : Cell → Cell
-flashing c =
-    record { character = c.character; ink = c.ink; ground = c.ground; flash = true; inverse = c.inverse }
+flashing c = record c { flash = true }
 
 abbrev pub inverted : Cell → Cell
-inverted c =
-    record { character = c.character; ink = c.ink; ground = c.ground; flash = c.flash; inverse = true }
+inverted c = record c { inverse = true }
 
 -- a code of G0 with start attributes
 abbrev pub plain : ℕ → Cell
@@ -112,7 +108,7 @@ rows n = blanks (n * 40)
 -- set, ink and ground; none waiting, no flash, not inverse
 abbrev pub those : ℕ → ℕ → ℕ → Attributes
 those s i g =
-    record { set = s; ink = i; zone = record { ground = g; waiting = Nothing }; flash = false; inverse = false }
+    record { set = s; ink = i; zone = record { ground = g; waiting = None }; flash = false; inverse = false }
 
 -- "Current attributes at the start: set G0, ink 7, ground 0, none waiting, no flash, not inverse"
 abbrev pub start : Attributes
@@ -120,20 +116,13 @@ start = those 0 7 0
 
 -- the same with this ground waiting, with flash, and inverse
 abbrev pub awaiting : ℕ → Attributes → Attributes
-awaiting g a =
-    record {
-      set = a.set;
-      ink = a.ink;
-      zone = record { ground = a.zone.ground; waiting = Ground g };
-      flash = a.flash;
-      inverse = a.inverse;
-    }
+awaiting g a = record a { zone = record { ground = a.zone.ground; waiting = Some g } }
 
 abbrev pub flash : Attributes → Attributes
-flash a = record { set = a.set; ink = a.ink; zone = a.zone; flash = true; inverse = a.inverse }
+flash a = record a { flash = true }
 
 abbrev pub inverse : Attributes → Attributes
-inverse a = record { set = a.set; ink = a.ink; zone = a.zone; flash = a.flash; inverse = true }
+inverse a = record a { inverse = true }
 
 -- ---- pens
 
@@ -144,28 +133,20 @@ spot r c a = record { place = record { row = r; column = c }; attributes = a }
 -- there: as at the start nothing was held before row 0 was entered, no character was written, nothing is unfinished, and
 -- the cursor is hidden
 abbrev pub pen : ℕ → ℕ → Attributes → Pen
-pen r c a = record { here = spot r c a; kept = spot 1 1 start; last = Never; sequence = Free; shown = false }
+pen r c a = record { here = spot r c a; kept = spot 1 1 start; last = None; sequence = Free; shown = false }
 
 -- the same with this place and these attributes held before row 0 was entered
 abbrev pub keeping : ℕ → ℕ → Attributes → Pen → Pen
-keeping r c a p =
-    record { here = p.here; kept = spot r c a; last = p.last; sequence = p.sequence; shown = p.shown }
+keeping r c a p = record p { kept = spot r c a }
 
 -- with this set and code as the last character
 abbrev pub lately : ℕ → ℕ → Pen → Pen
-lately s d p =
-    record {
-      here = p.here;
-      kept = p.kept;
-      last = Was (record { set = s; code = d });
-      sequence = p.sequence;
-      shown = p.shown;
-    }
+lately s d p = record p { last = Some (record { set = s; code = d }) }
 
 -- with this sequence unfinished
 abbrev pub unfinished : Sequence → Pen → Pen
-unfinished q p = record { here = p.here; kept = p.kept; last = p.last; sequence = q; shown = p.shown }
+unfinished q p = record p { sequence = q }
 
 -- with the cursor shown
 abbrev pub visible : Pen → Pen
-visible p = record { here = p.here; kept = p.kept; last = p.last; sequence = p.sequence; shown = true }
+visible p = record p { shown = true }
