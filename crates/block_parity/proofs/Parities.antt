@@ -1,15 +1,15 @@
 -- Laws of parity: it adds up like the bits do, a value with parity is even, and only its seven low bits count.
 -- Assumes nothing.
 use mathlib.Core.Path.{◌≡◌, refl, sym, ap, ap₂, ◌∙◌}
-use mathlib.Core.Bool.{Bool, true, false, cond, not, ◌&&◌}
+use mathlib.Core.Bool.{Bool, true, false, cond, ◌&&◌}
 use mathlib.Core.List.{List, [], ◌∷◌, ◌++◌}
-use Prim.Native.Nat.{ℕ, zero, suc, ◌+◌, ◌*◌, ◌/◌, ◌%◌, ◌<◌}
+use Prim.Native.Nat.{ℕ, zero, suc, ◌+◌, ◌*◌, ◌/◌, ◌%◌, ◌^◌, ◌≤◌, ◌<◌}
 use native.Mathlib.Nat.{add-mod, mod-lt, zero-lt-suc}
 use native.Mathlib.Omega.{arith}
+use lib.ListN.{length}
 use lib.Dec.{T, eqb, eqb→eq}
 use lib.Bits.{bit_xor}
-use Rattle.std.specs.List.{fold, count_by}
-use Rattle.std.proofs.lemmas.List.Recursion.{is_count_by}
+use Rattle.std.specs.List.{fold}
 use Rattle.laws.proofs.Computed.{below, at, Equal, equal_at, and_left, and_right}
 use Rattle.laws.proofs.Xor.{digit_xor, digit_sum}
 use Rattle.laws.proofs.Sums.{Sum, none, more}
@@ -159,10 +159,27 @@ all_folded B = folded true B ∙ always (all_even B)
     always true = refl
     always false = refl
 
-pub counted : (B : List ℕ) → odds B ≡ count_by (λ (b : ℕ). not (even b)) B
+-- one more where a byte is odd, as a machine adds it
+abbrev pub summed : ℕ → ℕ → ℕ
+summed n b = (n + cond (even b) 0 1) % 2 ^ 64
+
+-- the sum of so few does not wrap
+so_far : (n : ℕ) (B : List ℕ) → n + length B < 2 ^ 64 → fold summed n B ≡ n + odds B
 unfolding odds
-counted = is_count_by odds (λ (b : ℕ). not (even b)) refl (λ b B. other (even b) (odds B))
+so_far n [] h = omega arith
+so_far n (b ∷ B) h =
+    let most : cond (even b) 0 1 ≤ 1 = at_most (even b) in
+    let e : summed n b ≡ n + cond (even b) 0 1 = omega (arith, h, most) in
+    ap (λ (m : ℕ). fold summed m B) e ∙ so_far (n + cond (even b) 0 1) B (omega (arith, h, most))
+    ∙ one_more (even b) (odds B)
   where
-    other : (t : Bool) (n : ℕ) → cond t n (suc n) ≡ cond (not t) (1 + n) n
-    other true n = refl
-    other false n = omega arith
+    at_most : (t : Bool) → cond t 0 1 ≤ 1
+    at_most true = omega arith
+    at_most false = omega arith
+
+    one_more : (t : Bool) (m : ℕ) → (n + cond t 0 1) + m ≡ n + cond t m (suc m)
+    one_more true m = omega arith
+    one_more false m = omega arith
+
+pub odds_summed : (B : List ℕ) → length B < 2 ^ 64 → fold summed 0 B ≡ odds B
+odds_summed B h = so_far 0 B (omega (arith, h)) ∙ omega arith

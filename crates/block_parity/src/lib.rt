@@ -25,11 +25,15 @@ pub fn are_even(bytes: &[u8]) -> bool
     bytes.iter().fold(true, |all, byte| is_even(*byte) && all)
 }
 
-// How many of some bytes have an odd number of ones.
+// How many of some bytes have an odd number of ones. Summed, and not counted behind a filter: so a compiler can take many
+// at once here too. The sum does not wrap, since there are not so many bytes.
 pub fn odd_bytes(bytes: &[u8]) -> usize
     ensures { result ≡ odds bytes.now }
 {
-    bytes.iter().filter(|byte| !is_even(**byte)).count()
+    bytes.iter().fold(
+        0,
+        |odd: usize, byte| odd.wrapping_add(usize::from(!is_even(*byte))),
+    )
 }
 
 // A value with parity; of a byte above 127 the seven low bits count.

@@ -15,11 +15,11 @@ const PLACES: [u8; 128] = [
     106, 52, 78, 14, 36, 26, 30, 29, 54, 28, 73, 53, 15, 27,
 ];
 
-// The table, of which its rule is known.
-fn places() -> [u8; 128]
-    ensures { Pointing result }
+// The table, of which its rule is known. It is lent, since by value it would be copied for each block.
+fn places() -> &'static [u8; 128]
+    ensures { Pointing result.now }
 {
-    PLACES
+    &PLACES
 }
 
 // The bit that a remainder points to; of a byte above 127 the seven low bits count. Zero points to the parity bit

@@ -22,7 +22,7 @@ pub fn in_range(cells: [Cell; 1000]) -> bool
 pub fn clear(old: [Cell; 1000]) -> [Cell; 1000]
     ensures { result ≡ cleared old }
 {
-    let mut cells = old;
-    cells[40..].fill(screen_cells::blank());
+    let mut cells = [screen_cells::blank(); 1000];
+    cells[..40].copy_from_slice(&old[..40]);
     cells
 }

@@ -1,28 +1,31 @@
--- `screen_sheet::clear` meets its contract: what stands after row 0 is filled with blank cells. Assumes nothing.
-use mathlib.Core.Path.{◌≡◌}
-use mathlib.Core.List.{List, [], ◌++◌, append-nil}
-use Prim.Native.Nat.{ℕ, ◌+◌}
+-- `screen_sheet::clear` meets its contract: row 0 is copied over a thousand blank cells. Assumes nothing.
+use mathlib.Core.Path.{◌≡◌, sym, ap₂}
+use mathlib.Core.List.{List, ◌++◌}
+use Prim.Native.Nat.{ℕ}
 use native.Mathlib.Omega.{arith}
-use lib.ListN.{length, replicate, take, drop, length-drop, drop_of_length-le}
+use lib.ListN.{length, take, drop, replicate}
 use lib.Seq.{length-take-le}
-use borrow.Rule.Slice.PartMut.{put_mid}
 use Rattle.laws.proofs.Lists.{length_mapped}
 use Rattle.screen_cells.specs.declared.Cell.{Cell}
 use Rattle.screen_cells.specs.Cells.{blank_of}
 use Rattle.screen_sheet.specs.Clearing.{cleared}
 use Rattle.screen_sheet.proofs.clear.Goals as goal
 
--- the last k of n + k elements, all of them filled with one value
-filled : (n k : ℕ) (cs ds : List Cell) (x y : Cell) → length cs ≡ n + k
-    → ds ≡ replicate (length (take k (drop n cs))) x → x ≡ y
-    → put_mid n k cs ds ≡ take n cs ++ replicate k y
-filled n k cs ds x y l e f =
-    let j : length (take k (drop n cs)) ≡ k = length-take-le k (drop n cs) (omega (arith, length-drop n cs)) in
-    let d : drop k (drop n cs) ≡ [] = drop_of_length-le (drop n cs) {i = k} (omega (arith, length-drop n cs)) in
-    simp (e, j, d, append-nil, f)
+-- so many cells are kept
+abbrev kept : ℕ
+kept = 40
+
+row_0 : (old : List Cell) → length old ≡ 1000 → kept ≡ length (take kept old)
+row_0 old n = sym (length-take-le kept old (omega (arith, n)))
+
+pub slice_bounds-copy_from_slice-end-2 : goal.slice_bounds-copy_from_slice-end-2
+slice_bounds-copy_from_slice-end-2 c = row_0 c.args.old (search (length_mapped, c.well_formed.0))
+
+pub copy_from_slice-requires : goal.copy_from_slice-requires
+copy_from_slice-requires c = row_0 c.args.old (search (length_mapped, c.well_formed.0))
 
 pub returns : goal.returns
 unfolding cleared
 returns c =
-    filled 40 960 c.args.old c.fill.new.self c.blank.result blank_of (search (length_mapped, c.well_formed.0))
-    (c.fill.ensures.after (λ y e. e)) c.blank.ensures
+    ap₂ (λ (cs : List Cell) (x : Cell). cs ++ drop kept (replicate 1000 x)) c.copy_from_slice.ensures.after
+    c.blank-cells.ensures
