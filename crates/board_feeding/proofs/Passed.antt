@@ -139,7 +139,7 @@ module _ (l : Links) (vs : List ℕ) (n : ℕ) (e : are_plain l vs ≡ true) whe
   pub as_they_are : (m : Module) → got m l (from_line (take n vs)) ≡ cond (reaches l.table Modem m) (take n vs) []
   as_they_are m = got_all m l (take n vs) (tested_plain l vs n e)
 
-  fed_each : fed l (take n vs)
+  pub fed_each : fed l (take n vs)
       ≡ record { links = l; shares = shares_of (λ m. cond (reaches l.table Modem m) (take n vs) []) }
   unfolding fed
   fed_each = simp (links_stay, as_they_are Screen, as_they_are Keyboard, as_they_are Modem, as_they_are Socket)

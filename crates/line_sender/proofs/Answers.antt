@@ -5,7 +5,8 @@ use mathlib.Core.List.{List, ◌∷◌, ◌++◌}
 use Prim.Native.Nat.{ℕ, ◌+◌, ◌-◌, ◌*◌, ◌≤◌, ◌<◌}
 use native.Mathlib.Omega.{arith}
 use lib.Dec.{eqb, ltb}
-use lib.ListN.{length, get_or, take, drop}
+use lib.ListN.{length, get_or, take, drop, length-drop}
+use lib.Seq.{length-take-le}
 use borrow.Author.Tests.{lt-ltb, le-ltb, eq-eqb, ne_eqb, ltb-true}
 use Rattle.laws.proofs.Computed.{and_left, is_true, holds}
 use Rattle.std.specs.Prelude.{Ok, slice_range}
@@ -86,6 +87,14 @@ module _ (s : Sender) (qs O : List ℕ) where
     is_kept_lem h = kept_or_not ∙ ap (choice true) (lt-ltb _ _ h)
 
 -- ---- the bytes
+
+-- SYN, SYN, the code, and seventeen for each block from the one named on
+pub from_length : (s : Sender) (x : ℕ) → s.kept < 17 → length s.blocks ≡ 272 → before s x < s.kept
+    → length (from_on s x) ≡ 3 + 17 * (s.kept - before s x)
+from_length s x k l h =
+    let b : ℕ = before s x in
+    let t : length (stored s) ≡ 17 * s.kept = length-take-le (17 * s.kept) s.blocks (omega (arith, k, l)) in
+    omega (arith, length-drop (17 * b) (stored s), t, h)
 
 module _ (s : Sender) (qs O : List ℕ) (two : length qs ≡ 2) (g : in_range s ≡ true) where
   -- the blocks from the one named on, where they stand in the array

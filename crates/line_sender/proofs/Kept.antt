@@ -175,6 +175,10 @@ module _ (s : Sender) (vs O : List ℕ) where
       (λ z. keeps_more s Ws (block_of vs) k (block_long vs (few (e ∙ eqb-true n 0 z))))
       (λ z. subst⁻¹ (Keeps s) (append-nil Ws) k)
 
+-- "A repeated request changes no stored block and no next number"
+pub resend_same : (s : Sender) (qs O : List ℕ) → (resent_by s qs O).sender ≡ s
+resend_same s qs O = refl
+
 -- a byte heard changes nothing of what is kept
 keeps_held : (s : Sender) (Ws : List (List ℕ)) (t : Bool) → Keeps s Ws → Keeps (holding s t) Ws
 keeps_held s Ws t k =

@@ -1,10 +1,11 @@
 -- A step with the pen carried beside the cells. Assumes nothing.
 use mathlib.Core.Path.{◌≡◌, refl, sym, ap, ◌∙◌}
 use mathlib.Core.Bool.{true, false}
-use Prim.Native.Nat.{ℕ, ◌≤◌}
+use Prim.Native.Nat.{ℕ, zero, suc, ◌≤◌}
 use native.Mathlib.Omega.{arith}
 use lib.ListN.{set}
 use Rattle.screen_sequences.specs.Sequences.{is_free}
+use Rattle.screen_cells.specs.declared.Character.{Character}
 use Rattle.screen_cells.specs.Characters.{character}
 use Rattle.screen_pen.specs.declared.Pen.{Pen}
 use Rattle.screen_pen.specs.declared.Stroke.{Stroke}
@@ -17,7 +18,7 @@ use Rattle.screen_planning.proofs.Plans.{plan_text}
 use Rattle.screen_page.specs.declared.Screen.{Screen}
 use Rattle.screen_page.specs.Pages.{with_pen}
 use Rattle.screen.specs.Others.{is_other}
-use Rattle.screen.specs.Screens.{applied, advanced}
+use Rattle.screen.specs.Screens.{written, written_times, applied, advanced}
 
 -- the pen that the screen had does not matter
 pub applied_any : (s : Screen) (p q : Pen) (o : Asked) → applied (with_pen s p) q o ≡ applied s q o
@@ -41,6 +42,12 @@ plain p b e =
     let f : is_free p.sequence ≡ true = grind arith in
     let g : 32 ≤ b = grind arith in
     sym (plan_text p b f g)
+
+-- once, and then n times, is n times and once more
+pub once_first : (s : Screen) (c : Character) (n : ℕ) → written_times (written s c) c n ≡ written_times s c (suc n)
+unfolding written_times
+once_first s c zero = refl
+once_first s c (suc n) = ap (λ (t : Screen). written t c) (once_first s c n)
 
 -- a screen with what a stroke leaves
 abbrev pub laid : Screen → ℕ → Stroke → Screen
