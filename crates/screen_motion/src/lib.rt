@@ -46,16 +46,17 @@ pub fn left(place: Place) -> Place
 pub fn right(place: Place) -> Place
     ensures { result ≡ right_of place }
 {
+    let row = place.row;
     if place.column < 40 {
         Place {
             column: place.column + 1,
             ..place
         }
-    } else if place.row == 0 {
+    } else if row == 0 {
         place
     } else {
         Place {
-            row: row_below(place.row),
+            row: row_below(row),
             column: 1,
         }
     }
