@@ -15,34 +15,58 @@ use board::{Board, Outcome};
 use few::Few;
 use system::Output;
 
-// What comes of the words of a command, behind its name.
-fn outcome(name: &str, words: &mut Parts<'_>, now: Board) -> Option<Outcome> {
+// A call of the board's own.
+#[derive(Clone, Copy)]
+enum Call {
+    On,
+    Off,
+    Ask,
+    To(Standard),
+    Line(u8),
+    Key(u8),
+    Socket(u8),
+}
+
+// The call that words name, behind its name.
+fn call_of(name: &str, words: &mut Parts<'_>) -> Option<Call> {
     Some(match name {
-        "fresh" => taken(Board::fresh()),
-        "on" => now.switch_on(),
-        "off" => now.switch_off(),
-        "ask" => now.ask_again(),
-        "to" => match Standard::named(words.next()?)? {
-            Standard::Local => now.with_local(),
-            Standard::Connected => now.with_connected(),
-        },
-        "line" => now.line(words.byte()?),
-        "key" => now.key(words.byte()?),
-        "socket" => now.socket(words.byte()?),
-        "rx" => taken(Board {
-            receiver: state_of(words)?,
-            ..now
-        }),
-        "lnk" => taken(Board {
-            links: links_of(words)?,
-            ..now
-        }),
-        "scr" => taken(Board {
-            screen: screen_of(words)?,
-            ..now
-        }),
+        "on" => Call::On,
+        "off" => Call::Off,
+        "ask" => Call::Ask,
+        "to" => Call::To(Standard::named(words.next()?)?),
+        "line" => Call::Line(words.byte()?),
+        "key" => Call::Key(words.byte()?),
+        "socket" => Call::Socket(words.byte()?),
         _ => return None,
     })
+}
+
+// What comes of a call. It is made where its outcome is all that is held: a function that holds several clears each of
+// them, thousands of bytes, at every command.
+fn called(call: Call, now: Board) -> Outcome {
+    match call {
+        Call::On => now.switch_on(),
+        Call::Off => now.switch_off(),
+        Call::Ask => now.ask_again(),
+        Call::To(Standard::Local) => now.with_local(),
+        Call::To(Standard::Connected) => now.with_connected(),
+        Call::Line(byte) => now.line(byte),
+        Call::Key(value) => now.key(value),
+        Call::Socket(value) => now.socket(value),
+    }
+}
+
+// A fresh board, or one part as the words behind its name give it, and the others as they are.
+fn loaded(name: &str, words: &mut Parts<'_>, now: Board) -> Option<Board> {
+    let mut board = now;
+    match name {
+        "fresh" => board = Board::fresh(),
+        "rx" => board.receiver = state_of(words)?,
+        "lnk" => board.links = links_of(words)?,
+        "scr" => board.screen = screen_of(words)?,
+        _ => return None,
+    }
+    Some(board)
 }
 
 // A state that no call made is taken, and nothing is handed out.
@@ -66,12 +90,23 @@ pub(crate) fn obey(out: &mut Output, mut words: Parts<'_>, now: &mut Board) -> O
             out.print(Shown(&now.screen.cells));
         }
         "lines" => lines(out, words, now)?,
-        name => {
-            let done = outcome(name, &mut words, *now)?;
-            words.end()?;
-            out.print(Shown(&done));
-            *now = done.next;
-        }
+        name => match call_of(name, &mut words) {
+            Some(call) => {
+                words.end()?;
+                hand_back(out, now, called(call, *now));
+            }
+            None => {
+                let next = loaded(name, &mut words, *now)?;
+                words.end()?;
+                hand_back(out, now, taken(next));
+            }
+        },
     }
     Some(())
+}
+
+// Tells an outcome, and keeps its board.
+fn hand_back(out: &mut Output, now: &mut Board, done: Outcome) {
+    out.print(Shown(&done));
+    *now = done.next;
 }
