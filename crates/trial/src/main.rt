@@ -4,7 +4,7 @@
 //
 // lines.rt      a line, put together from the portions of a script
 // words.rt      the words of a line, what they name, and bytes as words
-// numbering.rt  the paper's number of each answer
+// numbering.rt  the paper's number of an answer, where its part has no call that gives it
 // blocks.rt     the commands of the block code
 // receiving.rt  the commands of the line receiver
 // screening.rt  the commands of the screen
