@@ -29,7 +29,7 @@ mod texts;
 
 use boarding::Boarding;
 use judging::Judging;
-use lent::first;
+use lent::{first, is, past};
 use linking::Linking;
 use portions::{Reading, play};
 use receiving::Receiving;
@@ -62,10 +62,8 @@ impl Streams {
     // Plays an open file by a mode.
     fn play_by(&mut self, mode: &[u8], record: &mut impl Read) {
         let out = &mut self.out;
-        let (part, writing) = match mode.strip_prefix(b"write-") {
-            Some(part) => (part, true),
-            None => (mode, false),
-        };
+        let writing = is(first(mode, 6), b"write-");
+        let part = if writing { past(mode, 6) } else { mode };
         match part {
             b"judge" => play(Judging::default(), out, record, writing),
             b"receiver" => play(Receiving::begun(), out, record, writing),

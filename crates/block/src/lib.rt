@@ -5,7 +5,7 @@
 #![tactic(auto)]
 
 ghost use Rattle.std.specs.Prelude.{◌≡◌};
-ghost use Rattle.block_reader.specs.Judging.{told, judged, handed};
+ghost use Rattle.block_reader.specs.Judging.{told, judged, handed, bit_named};
 
 pub use block_maker::{make, values};
 pub use block_parity::with_parity;
@@ -16,6 +16,29 @@ pub use block_reader::{Verdict, mend};
 pub struct Judged<'a> {
     pub verdict: Verdict,
     pub part: &'a mut [u8],
+}
+
+impl<'a> Judged<'a> {
+    // The paper's number: a block that was mended is taken.
+    pub fn number(&self) -> u8
+        ensures { result ≡ (told self.now.verdict).number }
+    {
+        match self.verdict {
+            Verdict::Clean | Verdict::Mended(_) => 0,
+            Verdict::Repeat => 3,
+            Verdict::WrongLength => 1,
+        }
+    }
+
+    // The bit that was mended, 255 where none was.
+    pub fn bit(&self) -> u8
+        ensures { result ≡ bit_named (told self.now.verdict) }
+    {
+        match self.verdict {
+            Verdict::Mended(bit) => bit,
+            Verdict::Clean | Verdict::Repeat | Verdict::WrongLength => 255,
+        }
+    }
 }
 
 // A block judged, of any length.

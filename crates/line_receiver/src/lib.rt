@@ -22,7 +22,7 @@ mod while_on;
 use block_reader::Verdict;
 use few::Few;
 pub use line_phases::Phase;
-pub use outcomes::silent;
+pub use outcomes::{answer_number, silent};
 use outcomes::{pass, refuse};
 use requests::again;
 use states::emptied;

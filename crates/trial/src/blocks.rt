@@ -2,7 +2,6 @@
 // such command.
 use crate::numbering::Number;
 use crate::words::{Hex, MOST, OrDash, Parts};
-use block::{Judged, Verdict};
 use block_maker::Unmade;
 use few::Few;
 use system::Output;
@@ -24,13 +23,13 @@ pub(crate) fn make(out: &mut Output, mut words: Parts<'_>) -> Option<()> {
     Some(())
 }
 
-// A verdict as a word.
-fn word(verdict: Verdict) -> &'static str {
-    match verdict {
-        Verdict::Clean => "clean",
-        Verdict::Mended(_) => "mended",
-        Verdict::Repeat => "repeat",
-        Verdict::WrongLength => "-",
+// The judge's number and bit as a word. A block that was taken is mended where a bit is named.
+fn word(number: u8, bit: u8) -> &'static str {
+    match (number, bit) {
+        (0, 255) => "clean",
+        (0, _) => "mended",
+        (3, _) => "repeat",
+        _ => "-",
     }
 }
 
@@ -40,10 +39,10 @@ pub(crate) fn judge(out: &mut Output, mut words: Parts<'_>) -> Option<()> {
     let mut lent = [0u8; MOST];
     let block = words.bytes(&mut lent)?;
     words.end()?;
-    let Judged { verdict, part } = block::judge(block);
-    let part = Few::<MOST>::of(part);
-    let number = Number::from(verdict);
-    let word = word(verdict);
+    let judged = block::judge(block);
+    let number = judged.number();
+    let word = word(number, judged.bit());
+    let part = Few::<MOST>::of(judged.part);
     out.print(format_args!("{number} {word} {} {}", Hex(block), Hex(part.bytes())));
     Some(())
 }

@@ -7,19 +7,23 @@ pub(crate) const LONGEST: usize = 9000;
 
 const ROOM: usize = LONGEST + 1;
 
-// What is there of a line. There is no heap, so that its characters stand in an array: the first `length`. Not a `Few`:
-// its places past the bytes are 0, so that they would have to be cleared before each line.
+// What is there of a line, and its number in the script, from 1. There is no heap, so that its characters stand in an
+// array: the first `length`. Not a `Few`: its places past the bytes are 0, so that they would have to be cleared before
+// each line.
 #[derive(Drop)]
 pub(crate) struct Line {
     room: [u8; ROOM],
     length: usize,
+    pub(crate) number: u64,
 }
 
 impl Line {
+    // The first of a script.
     pub(crate) fn empty() -> Line {
         Line {
             room: [0; ROOM],
             length: 0,
+            number: 1,
         }
     }
 
@@ -35,8 +39,9 @@ impl Line {
         first(&self.room, self.length)
     }
 
-    // The next one begins.
+    // The next one begins. No script has more lines than a u64 counts.
     pub(crate) fn clear(&mut self) {
         self.length = 0;
+        self.number = self.number.saturating_add(1);
     }
 }

@@ -4,7 +4,7 @@
 //
 // lines.rt      a line, put together from the portions of a script
 // words.rt      the words of a line, what they name, and bytes as words
-// numbering.rt  the paper's number of each answer
+// numbering.rt  the paper's number of an answer, where its part has no call that gives it
 // blocks.rt     the commands of the block code
 // receiving.rt  the commands of the line receiver
 // screening.rt  the commands of the screen
@@ -103,27 +103,36 @@ enum Fault {
     Output(io::Error),
 }
 
+// Answers the lines that end in a portion; what it has of the next one waits for more.
+fn answer_portion(
+    out: &mut Output,
+    state: &mut State,
+    line: &mut Line,
+    portion: &[u8],
+) -> io::Result<()> {
+    for piece in portion.split_inclusive(|c| *c == b'\n') {
+        if line.take(piece) {
+            answer(out, state, line.characters(), line.number)?;
+            line.clear();
+        }
+    }
+    Ok(())
+}
+
 // Answers each line of a script. A loop is to end by itself, and what is read need not: so the portions are counted, and
-// no script has more of them, or more lines, than a u64 counts.
+// no script has more of them than a u64 counts.
 fn answer_all(out: &mut Output, script: &mut impl Read) -> Result<(), Fault> {
     let mut portion = [0u8; 65536];
     let mut line = Line::empty();
     let mut state = State::start();
-    let mut number = 1u64;
     for _ in 0..u64::MAX {
         let got = script.read(&mut portion).map_err(Fault::Script)?;
         if got == 0 {
             break;
         }
-        for piece in portion[..got].split_inclusive(|c| *c == b'\n') {
-            if line.take(piece) {
-                answer(out, &mut state, line.characters(), number).map_err(Fault::Output)?;
-                line.clear();
-                number = number.saturating_add(1);
-            }
-        }
+        answer_portion(out, &mut state, &mut line, &portion[..got]).map_err(Fault::Output)?;
     }
-    answer(out, &mut state, line.characters(), number).map_err(Fault::Output)
+    answer(out, &mut state, line.characters(), line.number).map_err(Fault::Output)
 }
 
 // What the program writes to. The bench has the same two: what is done with them differs, so that a type for both would

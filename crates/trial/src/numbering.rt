@@ -1,5 +1,5 @@
-// The numbers that the paper gives the answers (01, "Numbers given"), whatever made them.
-use block::Verdict;
+// The numbers that the paper gives the answers (01, "Numbers given"), whatever made them. Those of the judge and of the
+// receiver are not here: `block::Judged::number` and `line_receiver::answer_number` promise them.
 use block_maker::Unmade;
 use std::fmt;
 
@@ -8,7 +8,6 @@ pub(crate) enum Number {
     Taken = 0,
     WrongLength = 1,
     TooLarge = 2,
-    Repeat = 3,
     NoRoom = 4,
     Broken = 5,
 }
@@ -42,17 +41,6 @@ impl From<Unmade> for Number {
     }
 }
 
-// A block that was mended is taken.
-impl From<Verdict> for Number {
-    fn from(verdict: Verdict) -> Number {
-        match verdict {
-            Verdict::Clean | Verdict::Mended(_) => Number::Taken,
-            Verdict::Repeat => Number::Repeat,
-            Verdict::WrongLength => Number::WrongLength,
-        }
-    }
-}
-
 impl From<screen::Refusal> for Number {
     fn from(refusal: screen::Refusal) -> Number {
         match refusal {
@@ -68,12 +56,6 @@ impl From<links::Refusal> for Number {
             links::Refusal::TooLarge => Number::TooLarge,
             links::Refusal::Broken => Number::Broken,
         }
-    }
-}
-
-impl From<line_receiver::Broken> for Number {
-    fn from(_: line_receiver::Broken) -> Number {
-        Number::Broken
     }
 }
 

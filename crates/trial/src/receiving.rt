@@ -1,10 +1,9 @@
 // The commands of the line receiver: `rx new`, `rx on`, `rx off`, `rx ask`, `rx byte HH` and
 // `rx set PHASE NUMBER COUNT SEEN HELD`. Their answers are all of one form:
 // NUMBER passed=VALUES modem=BYTES state=PHASE,NUMBER,COUNT,SEEN,HELD.
-use crate::numbering::Number;
 use crate::words::{Hex, Parts, Shown};
 use lent::first;
-use line_receiver::{Phase, Receiver, Stepped, silent};
+use line_receiver::{Phase, Receiver, Stepped, answer_number, silent};
 use std::fmt;
 use system::Output;
 
@@ -56,7 +55,7 @@ pub(crate) fn obey(out: &mut Output, mut words: Parts<'_>, now: &mut Receiver) -
 impl fmt::Display for Shown<'_, Stepped> {
     fn fmt<W: fmt::Write>(&self, f: &mut fmt::Formatter<W>) -> fmt::Result {
         let done = self.0;
-        let number = Number::of(done.answer);
+        let number = answer_number(done.answer);
         let passed = Hex(done.values.bytes());
         let modem = Hex(done.request.bytes());
         let state = Shown(&done.next);
