@@ -22,6 +22,20 @@ impl fmt::Display for Spelled {
     }
 }
 
+// The cells of a row.
+#[derive(Clone, Copy)]
+struct Row<'a>(&'a [Cell]);
+
+impl fmt::Display for Row<'_> {
+    fn fmt<W: fmt::Write>(&self, f: &mut fmt::Formatter<W>) -> fmt::Result {
+        for cell in self.0 {
+            let seven = Spelled(*cell);
+            write!(f, "{seven}")?;
+        }
+        Ok(())
+    }
+}
+
 #[derive(Clone, Copy)]
 struct AttributesState(Attributes);
 
@@ -126,12 +140,8 @@ impl fmt::Display for Page<'_> {
     fn fmt<W: fmt::Write>(&self, f: &mut fmt::Formatter<W>) -> fmt::Result {
         let screen = self.0;
         for (row, cells) in screen.cells.chunks(40).enumerate() {
-            write!(f, "row {row} ")?;
-            for cell in cells {
-                let seven = Spelled(*cell);
-                write!(f, "{seven}")?;
-            }
-            f.write_str("\n")?;
+            let cells = Row(cells);
+            write!(f, "row {row} {cells}\n")?;
         }
         let pen = PenState(screen.pen);
         write!(f, "{pen}")

@@ -58,16 +58,69 @@ impl Output {
     }
 }
 
+// As many bytes as a line that tells a fault may have to be written at once: a file's name of the longest, what a program
+// puts before it, and what the system says.
+const LINE: usize = 4096 + 160;
+
+// A line that is put together before it is written. What does not fit is refused, so that none is written in part.
+#[derive(Drop)]
+struct Line {
+    text: [u8; LINE],
+    used: usize,
+}
+
+impl Line {
+    fn text(&self) -> &[u8]
+        ensures { result.now ≡ take self.now.used self.now.text }
+    {
+        &self.text[..self.used.min(LINE)]
+    }
+}
+
+impl Write for Line {
+    ghost contents = { λ line. Some (take line.used line.text) };
+
+    fn write(&mut self, buf: &[u8]) -> io::Result<usize> {
+        if self.used > LINE || buf.len() > LINE - self.used {
+            return Ok(0);
+        }
+        let end = self.used + buf.len();
+        self.text[self.used..end].copy_from_slice(buf);
+        self.used = end;
+        Ok(buf.len())
+    }
+
+    fn flush(&mut self) -> io::Result<()> {
+        Ok(())
+    }
+}
+
 // Writes a line, to standard error where a program tells a fault: what failed, as the caller names it, a colon, and what
-// the system says.
+// the system says. It is written at once, so that it does not mix with the lines of another program there; only one
+// that is too long for that is written in its pieces.
 pub fn fail<W: Write>(err: &mut W, what: &[u8], fault: Error) -> io::Result<()>
     ensures { OnOk result ((words : List ℕ)
         × Appends (W.contents err.old) (W.contents err.new) (what.now ++ (codes ": " ++ (words ++ codes "\n")))) }
 {
     let said = InlineText::<128>::of(fault);
+    let words = words(said.as_str()).as_bytes();
+    let mut line = Line {
+        text: [0; LINE],
+        used: 0,
+    };
+    match tell(&mut line, what, words) {
+        Ok(()) => err.write_all(line.text()),
+        Err(_) => tell(err, what, words),
+    }
+}
+
+// Writes the pieces of such a line.
+fn tell<W: Write>(err: &mut W, what: &[u8], words: &[u8]) -> io::Result<()>
+    ensures { OnOk result (Appends (W.contents err.old) (W.contents err.new) (what.now ++ (codes ": " ++ (words.now ++ codes "\n")))) }
+{
     err.write_all(what)?;
     err.write_all(b": ")?;
-    err.write_all(words(said.as_str()).as_bytes())?;
+    err.write_all(words)?;
     err.write_all(b"\n")
 }
 

@@ -1,5 +1,5 @@
 // A screen's state as words of an answer: its cells, and all the rest of it.
-use crate::words::{OrDash, Shown};
+use crate::words::{OrDash, Shown, letter, write_digits};
 use screen_attributes::Attributes;
 use screen_cells::{Cell, Character};
 use screen_cursor::Place;
@@ -8,29 +8,40 @@ use screen_sequences::Sequence;
 use std::fmt;
 
 // The seven digits of a cell. The bench writes them so too: see `Hex` of words.rt.
+fn spelled(cell: Cell) -> [u8; 7] {
+    let Cell {
+        character,
+        ink,
+        ground,
+        flash,
+        inverse,
+    } = cell;
+    let Character { set, code } = character;
+    [
+        letter(set),
+        letter(code / 16),
+        letter(code),
+        letter(ink),
+        letter(ground),
+        letter(u8::from(flash)),
+        letter(u8::from(inverse)),
+    ]
+}
+
 impl fmt::Display for Shown<'_, Cell> {
     fn fmt<W: fmt::Write>(&self, f: &mut fmt::Formatter<W>) -> fmt::Result {
-        let Cell {
-            character,
-            ink,
-            ground,
-            flash,
-            inverse,
-        } = *self.0;
-        let Character { set, code } = character;
-        let flash = u8::from(flash);
-        let inverse = u8::from(inverse);
-        write!(f, "{set:x}{code:02x}{ink:x}{ground:x}{flash}{inverse}")
+        write_digits(f, &spelled(*self.0))
     }
 }
 
 // All the cells, with nothing between them.
 impl fmt::Display for Shown<'_, [Cell; 1000]> {
     fn fmt<W: fmt::Write>(&self, f: &mut fmt::Formatter<W>) -> fmt::Result {
-        for cell in self.0 {
-            write!(f, "{}", Shown(cell))?;
+        let mut text = [[0; 7]; 1000];
+        for (seven, cell) in text.iter_mut().zip(self.0) {
+            *seven = spelled(*cell);
         }
-        Ok(())
+        write_digits(f, text.as_flattened())
     }
 }
 

@@ -8,8 +8,8 @@
 ghost use Rattle.std.specs.Prelude.{◌<◌};
 ghost use Rattle.std.specs.Option.{IfSome};
 
-use std::fmt;
 use std::str::Split;
+use std::{fmt, str};
 
 // As many bytes as a word of a block command may name.
 pub(crate) const MOST: usize = 64;
@@ -151,16 +151,43 @@ pub(crate) fn number(word: &str) -> Option<u8> {
 #[derive(Drop)]
 pub(crate) struct Hex<'a>(pub(crate) &'a [u8]);
 
+// As many bytes as are spelled at once.
+const AT_ONCE: usize = 64;
+
 impl fmt::Display for Hex<'_> {
     fn fmt<W: fmt::Write>(&self, f: &mut fmt::Formatter<W>) -> fmt::Result {
         if self.0.is_empty() {
             return f.write_str("-");
         }
-        for byte in self.0 {
-            write!(f, "{byte:02x}")?;
+        for bytes in self.0.chunks(AT_ONCE) {
+            let mut text = [[0; 2]; AT_ONCE];
+            spell(bytes, &mut text);
+            write_digits(f, text[..bytes.len().min(AT_ONCE)].as_flattened())?;
         }
         Ok(())
     }
+}
+
+// Puts the two digits of each byte into a text.
+fn spell(bytes: &[u8], text: &mut [[u8; 2]]) {
+    for (two, byte) in text.iter_mut().zip(bytes) {
+        *two = [letter(*byte / 16), letter(*byte)];
+    }
+}
+
+// The lower-case hex digit of a number's last four bits.
+pub(crate) fn letter(number: u8) -> u8 {
+    let worth = number % 16;
+    if worth < 10 {
+        b'0' + worth
+    } else {
+        b'a' - 10 + worth
+    }
+}
+
+// Writes digits that are put together first: `write!` takes as long for each of them as for all.
+pub(crate) fn write_digits<W: fmt::Write>(f: &mut fmt::Formatter<W>, digits: &[u8]) -> fmt::Result {
+    f.write_str(str::from_utf8(digits).map_err(|_| fmt::Error)?)
 }
 
 // What may be there, as a word; `-` where it is not.
