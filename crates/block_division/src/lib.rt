@@ -23,12 +23,12 @@ fn mirror(c: u8) -> u8
 }
 
 // The check bits of some bytes: what their polynomial times x^7 leaves. Weight 1 of a byte has its highest power, so
-// the check bits are kept mirrored on the way. A constant is laid out in memory wherever it is named: so that this
-// happens once, and not for each byte, a local holds the table.
+// the check bits are kept mirrored on the way. The table is lent: a constant that is taken by value is laid out in memory
+// at each call.
 pub fn check_bits(bytes: &[u8]) -> u8
     ensures { result ≡ check_bits bytes.now }
 {
-    let table = REMAINDERS;
+    let table = &REMAINDERS;
     let mut m: u8 = 0;
     for byte in bytes {
         m = table[usize::from(m ^ *byte)];
